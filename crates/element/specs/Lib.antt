@@ -1,0 +1,4 @@
+pub mod Laws
+pub mod Bits
+pub mod Lanes
+pub mod Forms
