@@ -1,0 +1,11 @@
+pub mod Sums
+pub mod Reach
+pub mod Written
+pub mod Lowest
+pub mod Places
+pub mod Equations
+pub mod Soundness
+pub mod Rows
+pub mod Completion
+pub mod Verdicts
+pub mod Answered

@@ -1,0 +1,9 @@
+pub mod Permutation
+pub mod Equation
+pub mod Shape
+pub mod Sound
+pub mod Terms
+pub mod Segments
+pub mod Codeblock
+pub mod Refusals
+pub mod Check

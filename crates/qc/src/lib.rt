@@ -1,0 +1,15 @@
+// Quasi-cyclic codes with punctured bits, over any element kind and any segment length: permutations,
+// block equations, and the check of a block. It knows the numbers of no code.
+mod answers;
+mod kernel;
+mod matrix;
+mod syndrome;
+mod terms;
+
+pub use answers::RunFault;
+pub use answers::RunFaultRefusal;
+pub use answers::Verdict;
+pub use matrix::QuasiCyclic;
+pub use syndrome::check;
+pub use terms::Permutation;
+pub use terms::Term;
