@@ -1,0 +1,5 @@
+pub mod Permutations
+pub mod Rates
+pub mod Codes
+pub mod Refusals
+pub mod Worked
