@@ -52,3 +52,6 @@ module _ {E : Type 0} {none : E} {plus : E → E → E} {same : E → E → Bool
 -- as many elements as a list holds fit the memory
 pub fewer-fit : (size n k limit : ℕ) → k ≤ n → n * size < limit → k * size < limit
 fewer-fit size n k limit le fits = omega (arith, mul-le-mul-right size le, fits)
+
+pub joined : {A B C : Type 0} → A ↔ B → B ↔ C → A ↔ C
+joined f g = ((λ a. g .0 (f .0 a)), (λ c. f .1 (g .1 c)))

@@ -21,7 +21,7 @@ use Rattle.qc.proofs.Sums.{right, total-append}
 use Rattle.qc.proofs.Places.{π-place, π-below, in-group, zeros}
 
 module _ {E : Type 0} {none : E} {plus : E → E → E} {same : E → E → Bool} (laws : Laws none plus same) (c : Shape) (xs : List E) (j s : ℕ) (hj : j < 4) (hs : s < c .m) where
-  of-operator : (A : Operator) (g : ℕ) → apply plus c A (groups none (M c) xs g) (j * c .m + s) ≡ segment-sum none plus (c .m) (permutations c) (operator-terms A g) (segments none (c .m) xs) j s
+  pub of-operator : (A : Operator) (g : ℕ) → apply plus c A (groups none (M c) xs g) (j * c .m + s) ≡ segment-sum none plus (c .m) (permutations c) (operator-terms A g) (segments none (c .m) xs) j s
   of-operator Identity g =
       ap (λ p. getD xs p none) (in-group (c .m) g j s)
       ∙ sym (ap₂ (λ q r. segments none (c .m) xs (4 * g + q) r) (ap (λ n. n % 4) (zero-add j) ∙ mod-eq-of-lt hj) (ap (λ f. (s + f) % c .m) (zeros j) ∙ ap (λ n. n % c .m) (add-zero s) ∙ mod-eq-of-lt hs))
@@ -37,7 +37,7 @@ module _ {E : Type 0} {none : E} {plus : E → E → E} {same : E → E → Bool
   by-terms (A of g) = of-operator A g
   by-terms (p ⊕ q) = ap₂ plus (by-terms p) (by-terms q) ∙ sym (total-append laws _ (terms p) (terms q))
 
-all-append : {X : Type 0} (test : X → Bool) (xs ys : List X) → all test (xs ++ ys) ≡ true → (all test xs ≡ true) × (all test ys ≡ true)
+pub all-append : {X : Type 0} (test : X → Bool) (xs ys : List X) → all test (xs ++ ys) ≡ true → (all test xs ≡ true) × (all test ys ≡ true)
 all-append test [] ys e = (refl, e)
 all-append test (x ∷ xs) ys e =
     let both = and-parts (test x) (all test (xs ++ ys)) e in

@@ -2,11 +2,11 @@
 use mathlib.Core.Path.{_≡_, ap, _∙_}
 use mathlib.Core.List.{List}
 use Prim.Native.Nat.{ℕ, _+_, _-_, _*_, _<_, _≤_}
-use native.Mathlib.Nat.{add-mul, mul-le-mul-right}
+use native.Mathlib.Nat.{add-mul, mul-comm, mul-le-mul-right}
 use native.Mathlib.Omega.{arith}
 use lib.ListN.{length, getD, take, drop}
 use borrow.Rule.Slice.PartMut.{putMid}
-use Rattle.std.proofs.shelf.Bits.{mul-le}
+use Rattle.std.proofs.shelf.Bits.{mul-le, mul-add-lt}
 use Rattle.std.proofs.shelf.Lists.{length-take-le, length-drop, getD-take, getD-drop, getD-append-left, getD-append-add}
 
 pub record Inside (g q m len : ℕ) : Type 0 where
@@ -54,3 +54,22 @@ module _ {X : Type 0} (from k : ℕ) (xs ys : List X) (fits : from + k ≤ lengt
       let on : from + (k + n) ≡ p = omega arith in
       ap (λ q. getD (putMid from k xs ys) q d) at ∙ getD-append-add (take from xs) _ _ d ∙ getD-append-add ys _ n d
       ∙ getD-drop k (drop from xs) n d ∙ getD-drop from xs (k + n) d ∙ ap (λ q. getD xs q d) on
+
+-- segment n of a list that holds `count` segments of m elements
+pub record Held (n m len : ℕ) : Type 0 where
+  pub part : n * m + m ≤ len
+  pub number : n ≤ len
+  pub place : n * m ≤ len
+
+pub held : (n count m len : ℕ) → n < count → 0 < m → count * m ≤ len → Held n m len
+held n count m len h pos fits =
+    let most : n + 1 ≤ count = omega arith in
+    let a = mul-le-mul-right m most in
+    let b = add-mul n 1 m in
+    let one : 1 ≤ m = omega arith in
+    let d = mul-le n 1 n m (omega arith) one in
+    record { part = omega (arith, a, b, fits); number = omega (arith, a, b, d, fits); place = omega (arith, a, b, fits) }
+
+-- first row t * r + q of a table of s times t first rows
+pub row-below : (t r q s : ℕ) → r < s → q < t → t * r + q < s * t
+row-below t r q s hr hq = omega (arith, mul-add-lt r t q s hr hq, mul-comm t r, mul-comm t s)

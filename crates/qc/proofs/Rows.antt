@@ -1,6 +1,7 @@
 -- Steps of the loops over the four segments of a group.
 use mathlib.Core.Path.{_≡_, refl, sym, ap, ap₂, subst, _∙_}
 use mathlib.Core.Bool.{Bool, true}
+use mathlib.Core.Logic.{_⊎_, inl, inr}
 use mathlib.Core.List.{List, [], _∷_}
 use Prim.Native.Nat.{ℕ, suc, _+_, _-_, _*_, _/_, _%_, _<_, _≤_}
 use native.Mathlib.Nat.{add-mul, mul-le-mul-right, mod-lt}
@@ -11,7 +12,7 @@ use Rattle.std.proofs.shelf.Bits.{div-mul-add, mod-mul-add}
 use Rattle.qc.specs.declared.terms.Permutation.{Permutation}
 use Rattle.qc.specs.declared.terms.Term.{Term}
 use Rattle.qc.specs.Permutation.{absent}
-use Rattle.qc.specs.Segments.{segments, term-at, segment-sum, Readable, AllReadable, Written}
+use Rattle.qc.specs.Segments.{segments, term-at, segment-sum, AllReadable, AllApart, Written}
 use Rattle.qc.specs.Codeblock.{lowest}
 use Rattle.qc.proofs.Reach.{inside}
 use Rattle.qc.proofs.Written.{written-block}
@@ -41,26 +42,24 @@ module _ {E : Type 0} (none : E) (same : E → E → Bool) (m : ℕ) (f : ℕ �
   row-found s hj e =
       stretch-found (λ i. same (f (i / m) (i % m)) none) (λ s. same (getD sums s none) none) (j * m) (length sums) passed agree (4 * m) s (omega (arith, within-group j m hj, long)) e
 
--- terms that lie before `from` are the same in lists that agree before `from`
-pub sum-same : {E : Type 0} (none : E) (plus : E → E → E) (m from : ℕ) (table : List Permutation) (ts : List Term) → AllReadable m from table ts
-    → (xs ys : List E) → ((p : ℕ) → p < from → getD xs p none ≡ getD ys p none)
+-- terms that lie apart from the group at `from` are the same in lists that agree outside it
+pub sum-same : {E : Type 0} (none : E) (plus : E → E → E) (m from len : ℕ) (table : List Permutation) (ts : List Term) → AllReadable m len table ts → AllApart m from ts
+    → (xs ys : List E) → ((p : ℕ) → (p < from) ⊎ (from + 4 * m ≤ p) → getD xs p none ≡ getD ys p none)
     → (j s : ℕ) → j < 4 → s < m → segment-sum none plus m table ts (segments none m xs) j s ≡ segment-sum none plus m table ts (segments none m ys) j s
-sum-same none plus m from table [] ok xs ys alike j s hj hs = refl
-sum-same none plus m from table (t ∷ ts) ok xs ys alike j s hj hs =
-    let r = ok 0 t (omega arith) in
-    let pos : 0 < m = omega arith in
+sum-same none plus m from len table [] ok away xs ys alike j s hj hs = refl
+sum-same none plus m from len table (t ∷ ts) ok away xs ys alike j s hj hs =
     let p = getD table (t .permutation) absent in
     let q : ℕ = (p .theta + j) % 4 in
     let i : ℕ = (s + getD (p .phi) j 0) % m in
-    let place = inside (t .group) q m from (omega arith) pos (r .within) .part in
-    let low : i < m = mod-lt _ pos in
-    ap₂ plus (alike ((4 * t .group + q) * m + i) (omega (arith, place, low)))
-    (sum-same none plus m from table ts (λ i d l. ok (suc i) d (omega arith)) xs ys alike j s hj hs)
-
-pub readable-more : (m from len : ℕ) (table : List Permutation) (ts : List Term) → from ≤ len → AllReadable m from table ts → AllReadable m len table ts
-readable-more m from len table ts le ok i d h =
-    let r = ok i d h in
-    record { listed = r .listed; quarter = r .quarter; turned = r .turned; within = omega (arith, r .within, le) }
+    let low : i < m = mod-lt _ (omega arith) in
+    ap₂ plus (alike ((4 * t .group + q) * m + i) (outside from m (t .group) q i (omega arith) low (away 0 t (omega arith))))
+      (sum-same none plus m from len table ts (λ i d l. ok (suc i) d (omega arith)) (λ i d l. away (suc i) d (omega arith)) xs ys alike j s hj hs)
+  where
+    outside : (from m g q i : ℕ) → q < 4 → i < m → ((4 * g + 4) * m ≤ from) ⊎ (from + 4 * m ≤ 4 * g * m) → ((4 * g + q) * m + i < from) ⊎ (from + 4 * m ≤ (4 * g + q) * m + i)
+    outside from m g q i hq hi (inl before) =
+        let pos : 0 < m = omega arith in
+        inl (omega (arith, inside g q m from hq pos before .part))
+    outside from m g q i hq hi (inr after) = inr (omega (arith, add-mul (4 * g) q m))
 
 -- a group that is written segment by segment, one segment more
 pub group-more : {E : Type 0} (none : E) (f : ℕ → ℕ → E) (m from j : ℕ) (ys xs xs' sums : List E) → length sums ≡ m

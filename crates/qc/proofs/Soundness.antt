@@ -1,13 +1,15 @@
 -- What the computed test of a shape says, entry by entry.
-use mathlib.Core.Path.{_≡_, sym, subst, _∙_}
+use mathlib.Core.Path.{_≡_, sym, ap}
 use mathlib.Core.Bool.{Bool, true}
 use mathlib.Core.List.{List, [], _∷_}
 use Prim.Native.Nat.{ℕ, zero, suc, _+_, _*_, _<_, _≤_}
 use native.Mathlib.Nat.{add-mul, mul-assoc, mul-comm, mul-le-mul-right}
+use native.Mathlib.Decide.{decLt}
 use native.Mathlib.Omega.{arith}
 use lib.Dec.{ltb}
 use lib.ListN.{length, getD}
 use Rattle.std.proofs.shelf.Bits.{mul-le}
+use Rattle.std.proofs.shelf.Lists.{getD-past}
 use Rattle.std.proofs.shelf.Tests.{and-parts, ltb-true, leb-true}
 use Rattle.qc.specs.declared.terms.Permutation.{Permutation}
 use Rattle.qc.specs.declared.terms.Term.{Term}
@@ -26,8 +28,10 @@ pub record Sound (c : Shape) : Type 0 where
   pub few : c .K < 1000
   pub some-long : 0 < c .m
   pub short : c .m ≤ 512
-  pub roomy : 512 ≤ whole c
+  pub roomy : 1024 ≤ whole c
   pub permuted : all (permutation-sound (c .m)) (permutations c) ≡ true
+  pub u2-sound : all (term-sound (c .K) (length (permutations c))) (terms (c .u2)) ≡ true
+  pub u3-sound : all (term-sound (c .K) (length (permutations c))) (terms (c .u3)) ≡ true
   pub first-sound : all (term-sound (c .K + 3) (length (permutations c))) (terms (first c)) ≡ true
   pub second-sound : all (term-sound (c .K + 3) (length (permutations c))) (terms (second c)) ≡ true
   pub known-sound : all (term-sound (c .K + 2) (length (permutations c))) (terms (known c)) ≡ true
@@ -38,7 +42,9 @@ sounds c e =
     let e4 = and-parts _ (all (term-sound (c .K + 2) (length (permutations c))) (terms (known c))) e in
     let e3 = and-parts _ (all (term-sound (c .K + 3) (length (permutations c))) (terms (second c))) (e4 .0) in
     let e2 = and-parts _ (all (term-sound (c .K + 3) (length (permutations c))) (terms (first c))) (e3 .0) in
-    let e1 = and-parts _ (all (permutation-sound (c .m)) (permutations c)) (e2 .0) in
+    let e6 = and-parts _ (all (term-sound (c .K) (length (permutations c))) (terms (c .u3))) (e2 .0) in
+    let e5 = and-parts _ (all (term-sound (c .K) (length (permutations c))) (terms (c .u2))) (e6 .0) in
+    let e1 = and-parts _ (all (permutation-sound (c .m)) (permutations c)) (e5 .0) in
     let sizes = and-parts _ _ (e1 .0) in
     let upper = and-parts _ _ (sizes .0) in
     let lower = and-parts _ _ (upper .0) in
@@ -48,6 +54,8 @@ sounds c e =
       short = leb-true _ _ (upper .1);
       roomy = leb-true _ _ (sizes .1);
       permuted = e1 .1;
+      u2-sound = e5 .1;
+      u3-sound = e6 .1;
       first-sound = e2 .1;
       second-sound = e3 .1;
       known-sound = e4 .1;
@@ -58,6 +66,18 @@ shift-below : (m : ℕ) (fs : List ℕ) → 0 < m → all (λ f. ltb f m) fs ≡
 shift-below m [] pos e j = pos
 shift-below m (f ∷ fs) pos e zero = ltb-true f m (and-parts (ltb f m) _ e .0)
 shift-below m (f ∷ fs) pos e (suc j) = shift-below m fs pos (and-parts (ltb f m) _ e .1) j
+
+-- no shift passes the segment's length
+pub shift-most : (c : Shape) → Sound c → (t j : ℕ) → getD (getD (permutations c) t absent .phi) j 0 ≤ c .m
+shift-most c ok t j = go (decLt t (length (permutations c)))
+  where
+    go : Dec (t < length (permutations c)) → getD (getD (permutations c) t absent .phi) j 0 ≤ c .m
+    go (yes listed) =
+        let shifts = and-parts _ _ (all-at (permutation-sound (c .m)) (permutations c) (ok .permuted) t absent listed) in
+        omega (arith, shift-below (c .m) (getD (permutations c) t absent .phi) (ok .some-long) (shifts .1) j)
+    go (no past) =
+        let none-listed = getD-past (permutations c) t absent (omega arith) in
+        omega (arith, ap (λ (p : Permutation). getD (p .phi) j 0) none-listed)
 
 -- terms of the first few groups can be read in a list that holds these groups
 pub readable : (c : Shape) → Sound c → (count len : ℕ) → count * (4 * c .m) ≤ len

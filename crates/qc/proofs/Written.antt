@@ -56,3 +56,7 @@ in-back m k i h a b =
     let e : i - (m - k) ≡ i + k - m = omega arith in
     let big : m ≤ i + k = omega arith in
     e ∙ sym (mod-eq-sub-mod big ∙ mod-eq-of-lt (omega arith))
+
+-- the same of i < m + m
+pub once-more : (m i : ℕ) → m ≤ i → i < m + m → i - m ≡ i % m
+once-more m i a b = sym (mod-eq-sub-mod a ∙ mod-eq-of-lt (omega arith))

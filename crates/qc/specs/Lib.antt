@@ -6,4 +6,8 @@ pub mod Terms
 pub mod Segments
 pub mod Codeblock
 pub mod Refusals
+pub mod Circulant
+pub mod Coding
+pub mod Product
+pub mod Rules
 pub mod Check

@@ -1,6 +1,7 @@
 -- The loops' view of a block equation: segment by segment, as a sum over terms.
 use mathlib.Core.Path.{_≡_}
 use mathlib.Core.Bool.{Bool, true, _&&_}
+use mathlib.Core.Logic.{_⊎_}
 use mathlib.Core.List.{List, [], _∷_}
 use Prim.Native.Nat.{ℕ, zero, suc, _+_, _*_, _%_, _<_, _≤_}
 use lib.ListN.{length, getD}
@@ -41,6 +42,13 @@ pub record Readable (m len : ℕ) (table : List Permutation) (t : Term) : Type 0
 
 abbrev pub AllReadable : ℕ → ℕ → List Permutation → List Term → Type 0
 AllReadable m len table ts = (i : ℕ) (d : Term) → i < length ts → Readable m len table (getD ts i d)
+
+-- a term whose group lies before the group that begins at `from`, or after it
+abbrev pub Apart : ℕ → ℕ → Term → Type 0
+Apart m from t = ((4 * t .group + 4) * m ≤ from) ⊎ (from + 4 * m ≤ 4 * t .group * m)
+
+abbrev pub AllApart : ℕ → ℕ → List Term → Type 0
+AllApart m from ts = (i : ℕ) (d : Term) → i < length ts → Apart m from (getD ts i d)
 
 -- in xs the places from lo to n are f's, and all else is as in ys
 pub record Written {E : Type 0} (none : E) (f : ℕ → E) (lo : ℕ) (ys xs : List E) (n : ℕ) : Type 0 where

@@ -40,11 +40,17 @@ sent c = (c .K + 2) * M c
 abbrev pub whole : Shape → ℕ
 whole c = (c .K + 3) * M c
 
--- first block row: a + z + Π1 z
-abbrev pub first : Shape → Equation
-first c = Identity of a c ⊕ Identity ⊞ c .Π1 of z c
+-- first block row: a + z + Π1 z; `closing` is what it gives a from
+abbrev pub closing : Shape → Equation
+closing c = Identity ⊞ c .Π1 of z c
 
--- second block row: u2 + b + P z
+abbrev pub first : Shape → Equation
+first c = Identity of a c ⊕ closing c
+
+-- second block row: u2 + b + P z; `asked` is all but b
+abbrev pub asked : Shape → Equation
+asked c = c .u2 ⊕ c .P of z c
+
 abbrev pub second : Shape → Equation
 second c = c .u2 ⊕ Identity of b c ⊕ c .P of z c
 

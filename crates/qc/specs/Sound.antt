@@ -22,12 +22,14 @@ permutation-sound m p = ltb (p .theta) 4 && all (λ f. ltb f m) (p .phi)
 abbrev pub term-sound : ℕ → ℕ → Term → Bool
 term-sound groups permutations t = ltb (t .group) groups && ltb (t .permutation) permutations
 
--- the third block row gives the punctured group, so it reads none of it; the bounds on sizes keep every
--- place of a block within a machine word
+-- u2 and u3 are of the message alone; the third block row gives the punctured group, so it reads none of it;
+-- the bounds on sizes keep every place of a block within a machine word
 unfoldable pub sound : Shape → Bool
 sound c =
-    (ltb (c .K) 1000 && ltb 0 (c .m) && leb (c .m) 512 && leb 512 (whole c))
+    (ltb (c .K) 1000 && ltb 0 (c .m) && leb (c .m) 512 && leb 1024 (whole c))
     && all (permutation-sound (c .m)) (permutations c)
+    && all (term-sound (c .K) (length (permutations c))) (terms (c .u2))
+    && all (term-sound (c .K) (length (permutations c))) (terms (c .u3))
     && all (term-sound (c .K + 3) (length (permutations c))) (terms (first c))
     && all (term-sound (c .K + 3) (length (permutations c))) (terms (second c))
     && all (term-sound (c .K + 2) (length (permutations c))) (terms (known c))

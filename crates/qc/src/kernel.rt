@@ -2,14 +2,14 @@
 ghost use mathlib.Core.Path.{_≡_};
 ghost use Prim.Native.Nat.{ℕ, _+_, _-_, _*_, _/_, _%_, _<_, _≤_};
 ghost use lib.ListN.{length, getD};
-ghost use Rattle.qc.specs.Segments.{every, segments, term-at, segment-sum, Readable, AllReadable, Written};
+ghost use Rattle.qc.specs.Segments.{every, segments, term-at, segment-sum, Readable, AllReadable, AllApart, Written};
 ghost use Rattle.qc.specs.Codeblock.{lowest};
 use crate::terms::Permutation;
 use crate::terms::Term;
 use element::Element;
 
 // Writes zero into each place.
-fn clear<E: Element>(sums: &mut [E])
+pub(crate) fn clear<E: Element>(sums: &mut [E])
     ensures { λ _. ⌜ ((s : ℕ) → s < length (now (sums .entry)) → getD (now (sums .exit)) s zero ≡ zero) ⌝ }
 {
     for i in 0..sums.len() {
@@ -113,7 +113,7 @@ pub(crate) fn lowest_row<E: Element>(
 }
 
 // Writes `sums` over the places of `run` from `from` on.
-fn write_segment<E: Element>(run: &mut [E], from: usize, sums: &[E])
+pub(crate) fn write_segment<E: Element>(run: &mut [E], from: usize, sums: &[E])
     requires { ⌜ from + length (now sums) ≤ length (now run) ⌝ }
     ensures before { λ _. ⌜ ((p : ℕ) → p < from → getD (now (run .exit)) p zero ≡ getD (now (run .entry)) p zero) ⌝ }
     ensures made { λ _. ⌜ ((i : ℕ) → i < length (now (sums .entry)) → getD (now (run .exit)) (from + i) zero ≡ getD (now (sums .entry)) i zero) ⌝ }
@@ -122,7 +122,7 @@ fn write_segment<E: Element>(run: &mut [E], from: usize, sums: &[E])
     run[from..from + sums.len()].copy_from_slice(sums);
 }
 
-// Writes the four segments of a sum of terms to the group that begins at `from`; the terms lie before it.
+// Writes the four segments of a sum of terms to the group that begins at `from`; the terms are of other groups.
 pub(crate) fn write_group<E: Element>(
     run: &mut [E],
     sums: &mut [E],
@@ -131,7 +131,8 @@ pub(crate) fn write_group<E: Element>(
     from: usize,
 )
     requires short { ⌜ length (now sums) ≤ 512 ⌝ }
-    requires readable { ⌜ AllReadable (length (now sums)) from (now table) (now terms) ⌝ }
+    requires readable { ⌜ AllReadable (length (now sums)) (length (now run)) (now table) (now terms) ⌝ }
+    requires apart { ⌜ AllApart (length (now sums)) from (now terms) ⌝ }
     requires there { ⌜ from + 4 * length (now sums) ≤ length (now run) ⌝ }
     ensures { λ _. ⌜ Written zero (λ p. segment-sum zero plus (length (now (sums .entry))) (now (table .entry)) (now (terms .entry)) (segments zero (length (now (sums .entry))) (now (run .entry))) ((p - from) / length (now (sums .entry))) ((p - from) % length (now (sums .entry)))) from (now (run .entry)) (now (run .exit)) (from + 4 * length (now (sums .entry))) ⌝ }
 {

@@ -1,6 +1,8 @@
 // Quasi-cyclic codes with punctured bits, over any element kind and any segment length: permutations,
 // block equations, and the check of a block. It knows the numbers of no code.
 mod answers;
+mod circulant;
+mod coders;
 mod kernel;
 mod matrix;
 mod syndrome;
@@ -9,6 +11,11 @@ mod terms;
 pub use answers::RunFault;
 pub use answers::RunFaultRefusal;
 pub use answers::Verdict;
+pub use coders::CheckCoder;
+pub use coders::CheckCoderCoder;
+pub use coders::Coder;
+pub use coders::TableCoder;
+pub use coders::TableCoderCoder;
 pub use matrix::QuasiCyclic;
 pub use syndrome::check;
 pub use terms::Permutation;

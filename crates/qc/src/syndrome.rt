@@ -1,14 +1,15 @@
 // The check of a block.
 ghost use mathlib.Core.Path.{_≡_};
 ghost use mathlib.Core.Logic.{_↔_};
-ghost use Prim.Native.Nat.{ℕ, _*_, _≤_};
+ghost use Prim.Native.Nat.{ℕ, _*_, _<_, _≤_};
 ghost use lib.ListN.{length};
 ghost use Rattle.std.specs.declared.result.Result.the-variants.{Ok};
 ghost use Rattle.refusal.specs.Outcome.{outcome};
 ghost use Rattle.qc.specs.declared.answers.Verdict.the-variants.{Passes};
 ghost use Rattle.qc.specs.Refusals.{run-fault};
 ghost use Rattle.qc.specs.Shape.{M, whole};
-ghost use Rattle.qc.specs.Codeblock.{row, lowest, groups, completed, Codeblock};
+ghost use Rattle.qc.specs.Codeblock.{row, lowest, groups, completed, punctured, completed-by, AllZero, Codeblock};
+ghost use Rattle.qc.specs.Coding.{Reproduced};
 ghost use Rattle.qc.specs.Check.{checked-run, check-answer};
 use crate::answers::RunFault;
 use crate::answers::Verdict;
@@ -18,17 +19,17 @@ use crate::matrix::QuasiCyclic;
 use element::Element;
 
 // No code has longer segments.
-const LONGEST_SEGMENT: usize = 512;
+pub(crate) const LONGEST_SEGMENT: usize = 512;
 
 // How many elements a whole block has, its punctured group included.
-fn whole_len<C: QuasiCyclic>(code: C) -> usize
+pub(crate) fn whole_len<C: QuasiCyclic>(code: C) -> usize
     ensures { λ r. ⌜ r ≡ whole (shape code) ⌝ }
 {
     (code.message_groups() + 3) * (4 * code.segment())
 }
 
 // Writes the punctured group of the block at the front of `run` behind it.
-fn complete<C: QuasiCyclic, E: Element>(code: C, run: &mut [E], sums: &mut [E])
+pub(crate) fn complete<C: QuasiCyclic, E: Element>(code: C, run: &mut [E], sums: &mut [E])
     requires there { ⌜ whole (shape code) ≤ length (now run) ⌝ }
     requires segment { ⌜ length (now sums) ≡ shape code .m ⌝ }
     ensures { λ _. ⌜ now (run .exit) ≡ completed zero plus (shape code) (now (run .entry)) ⌝ }
@@ -54,11 +55,15 @@ fn lowest_failing<C: QuasiCyclic, E: Element>(code: C, run: &[E], sums: &mut [E]
 }
 
 // Checks the block at the front of `run`: writes its punctured group behind it, and answers that the block
-// passes or the lowest row that is not zero. It passes exactly when it is a codeblock.
+// passes or the lowest row that is not zero. It passes exactly when some punctured group makes all rows
+// zero, which is then the one that was written, and exactly when both coders make its parity from its
+// message.
 pub fn check<C: QuasiCyclic, E: Element>(code: C, run: &mut [E]) -> Result<Verdict, RunFault>
     ensures answer { λ r. ⌜ outcome run-fault r ≡ check-answer zero plus (shape code) same (now (run .entry)) ⌝ }
     ensures after { λ _. ⌜ now (run .exit) ≡ checked-run zero plus (shape code) (now (run .entry)) ⌝ }
     ensures passes { λ r. ⌜ (whole (shape code) ≤ length (now (run .entry)) → (r ≡ Ok Passes ↔ Codeblock zero plus (shape code) (groups zero (M (shape code)) (now (run .entry))))) ⌝ }
+    ensures only { λ _. ⌜ ((w : ℕ → E) → AllZero zero plus (shape code) (completed-by zero plus (shape code) (groups zero (M (shape code)) (now (run .entry))) w) → (i : ℕ) → i < M (shape code) → w i ≡ punctured zero plus (shape code) (groups zero (M (shape code)) (now (run .entry))) i) ⌝ }
+    ensures coders { λ r. ⌜ (whole (shape code) ≤ length (now (run .entry)) → (r ≡ Ok Passes ↔ Reproduced zero plus (shape code) (tables code) (now (run .entry)))) ⌝ }
 {
     if run.len() < whole_len(code) {
         return Err(RunFault::TooShort);

@@ -1,17 +1,18 @@
 use mathlib.Core.Path.{_≡_, sym, ap, subst, _∙_}
+use mathlib.Core.Logic.{⊎-elim}
 use Prim.Native.Nat.{ℕ, _+_, _-_, _*_, _/_, _%_, _<_, _≤_}
 use native.Mathlib.Nat.{mul-le-mul-right}
 use native.Mathlib.Omega.{arith}
 use borrow.Author.Needs.{needs}
 use lib.ListN.{length, getD}
 use Rattle.qc.specs.Segments.{segments, segment-sum, AllReadable, Written}
-use Rattle.qc.proofs.Rows.{sum-same, readable-more, group-more, within-group}
+use Rattle.qc.proofs.Rows.{sum-same, group-more, within-group}
 use Rattle.qc.proofs.kernel.write_group.Needs as need
 
 pub sum-segment-requires : need.sum-segment-requires
 sum-segment-requires g c κs =
     record {
-      readable = subst (λ m. AllReadable m (length (c .loop-j .run)) (c .args .table .now) (c .args .terms .now)) (sym (c .loop-j .kept .sums)) (readable-more _ (c .args .from) _ _ _ (omega (arith, c .pre .there, c .loop-j .kept .run)) (c .pre .readable));
+      readable = subst (λ m. AllReadable m (length (c .loop-j .run)) (c .args .table .now) (c .args .terms .now)) (sym (c .loop-j .kept .sums)) (subst (λ n. AllReadable (length (c .args .sums .now)) n (c .args .table .now) (c .args .terms .now)) (sym (c .loop-j .kept .run)) (c .pre .readable));
       quarter = c .loop-j-test .taken;
     }
 
@@ -33,7 +34,8 @@ loop-j-again g c =
     let made = subst (λ n. (s : ℕ) → s < n → getD (c .sum-segment .last .sums) s (e .zero) ≡ segment-sum (e .zero) (e .plus) n (c .args .table .now) (c .args .terms .now) (segments (e .zero) n (c .loop-j .run)) j s) (c .loop-j .kept .sums) (c .sum-segment .ensures) in
     group-more (e .zero) (segment-sum (e .zero) (e .plus) m (c .args .table .now) (c .args .terms .now) (segments (e .zero) m (c .args .run .now))) m (c .args .from) j
     (c .args .run .now) (c .loop-j .run) (c .write-segment .last .run) (c .sum-segment .last .sums) (c .sum-segment .kept .sums ∙ c .loop-j .kept .sums) (c .loop-j .inv)
-    (λ s h. made s h ∙ sum-same (e .zero) (e .plus) m (c .args .from) (c .args .table .now) (c .args .terms .now) (c .pre .readable) (c .loop-j .run) (c .args .run .now) (c .loop-j .inv .before) j s (c .loop-j-test .taken) h)
+    (λ s h. made s h ∙ sum-same (e .zero) (e .plus) m (c .args .from) (length (c .args .run .now)) (c .args .table .now) (c .args .terms .now) (c .pre .readable) (c .pre .apart) (c .loop-j .run) (c .args .run .now)
+         (λ p away. ⊎-elim (λ low. c .loop-j .inv .before p low) (λ high. c .loop-j .inv .after p (omega (arith, within-group j m (c .loop-j-test .taken)))) away) j s (c .loop-j-test .taken) h)
     (c .write-segment .ensures .before) (c .write-segment .ensures .made) (c .write-segment .ensures .rest)
 
 pub returns : need.returns

@@ -1,11 +1,16 @@
 use mathlib.Core.Path.{_≡_, sym, ap, subst, _∙_}
-use Prim.Native.Nat.{_≤_}
+use Prim.Native.Nat.{_<_, _≤_}
 use native.Mathlib.Omega.{arith}
 use lib.ListN.{length}
+use Rattle.std.proofs.shelf.Tests.{cond-below}
 use Rattle.std.specs.declared.option.Option.the-variants.{Some, None}
-use Rattle.qc.specs.Shape.{whole}
+use Rattle.qc.specs.Shape.{M, whole}
+use Rattle.qc.specs.Codeblock.{groups}
 use Rattle.qc.proofs.Soundness.{sounds}
-use Rattle.qc.proofs.Answered.{answered, left, passes, fewer-fit}
+use Rattle.qc.proofs.Answered.{answered, left, passes, fewer-fit, joined}
+use Rattle.qc.proofs.Tabulated.{tables-hold}
+use Rattle.qc.proofs.Verdicts.{only}
+use Rattle.qc.proofs.CodingLaws.{codeblock-reproduced, reproduced-codeblock}
 use Rattle.qc.proofs.syndrome.check.Needs as need
 
 pub whole-as-slice·longest : need.whole-as-slice·longest
@@ -18,26 +23,57 @@ whole-as-slice·longest g c =
 pub part-sums-end : need.part-sums-end
 part-sums-end g c = omega (arith, sounds _ (g .C·QuasiCyclic .lawful (c .args .code)) .short, c .segment .ensures)
 
+pub returns-then-run-whole-len : need.returns-then-run-whole-len
+returns-then-run-whole-len g c =
+    let e = g .E·Element in
+    let shape = g .C·QuasiCyclic .shape (c .args .code) in
+    let ok = sounds shape (g .C·QuasiCyclic .lawful (c .args .code)) in
+    let run = c .args .run .now in
+    let short : length run < whole shape = omega (arith, c .if-run-whole-len .taken, c .whole-len .ensures) in
+    record {
+      answer = cond-below (length run) (whole shape) _ _ short;
+      after = cond-below (length run) (whole shape) _ _ short;
+      passes = λ fits. absurd (omega arith);
+      only = only (e .laws) shape ok (groups (e .zero) (M shape) run);
+      coders = λ fits. absurd (omega arith);
+    }
+
 pub returns-in-Some : need.returns-in-Some
 returns-in-Some g c =
     let e = g .E·Element in
     let shape = g .C·QuasiCyclic .shape (c .args .code) in
+    let tables = g .C·QuasiCyclic .tables (c .args .code) in
     let ok = sounds shape (g .C·QuasiCyclic .lawful (c .args .code)) in
+    let hold = tables-hold shape tables (g .C·QuasiCyclic .ruled (c .args .code)) in
     let fits : whole shape ≤ length (c .args .run .now) = omega (arith, c .if-run-whole-len .left, c .whole-len .ensures) in
+    let run = c .args .run .now in
+    let done = c .complete .last .run in
+    let low = c .in-Some .ensures tt in
+    let passing = passes (e .laws) shape ok run fits done (c .complete .ensures) (Some (c .in-Some .r)) low in
     record {
-      answer = answered (e .laws) shape ok (c .args .run .now) fits (c .complete .last .run) (c .complete .ensures) (Some (c .in-Some .r)) (c .in-Some .ensures tt);
-      after = left (e .laws) shape ok (c .args .run .now) fits (c .complete .last .run) (c .complete .ensures) (Some (c .in-Some .r)) (c .in-Some .ensures tt);
-      passes = λ _. passes (e .laws) shape ok (c .args .run .now) fits (c .complete .last .run) (c .complete .ensures) (Some (c .in-Some .r)) (c .in-Some .ensures tt);
+      answer = answered (e .laws) shape ok run fits done (c .complete .ensures) (Some (c .in-Some .r)) low;
+      after = left (e .laws) shape ok run fits done (c .complete .ensures) (Some (c .in-Some .r)) low;
+      passes = λ _. passing;
+      only = only (e .laws) shape ok (groups (e .zero) (M shape) run);
+      coders = λ _. joined passing (codeblock-reproduced (e .laws) shape ok tables hold run fits, reproduced-codeblock (e .laws) shape ok tables hold run fits);
     }
 
 pub returns-in-None : need.returns-in-None
 returns-in-None g c =
     let e = g .E·Element in
     let shape = g .C·QuasiCyclic .shape (c .args .code) in
+    let tables = g .C·QuasiCyclic .tables (c .args .code) in
     let ok = sounds shape (g .C·QuasiCyclic .lawful (c .args .code)) in
+    let hold = tables-hold shape tables (g .C·QuasiCyclic .ruled (c .args .code)) in
     let fits : whole shape ≤ length (c .args .run .now) = omega (arith, c .if-run-whole-len .left, c .whole-len .ensures) in
+    let run = c .args .run .now in
+    let done = c .complete .last .run in
+    let low = c .in-None .ensures tt in
+    let passing = passes (e .laws) shape ok run fits done (c .complete .ensures) None low in
     record {
-      answer = answered (e .laws) shape ok (c .args .run .now) fits (c .complete .last .run) (c .complete .ensures) None (c .in-None .ensures tt);
-      after = left (e .laws) shape ok (c .args .run .now) fits (c .complete .last .run) (c .complete .ensures) None (c .in-None .ensures tt);
-      passes = λ _. passes (e .laws) shape ok (c .args .run .now) fits (c .complete .last .run) (c .complete .ensures) None (c .in-None .ensures tt);
+      answer = answered (e .laws) shape ok run fits done (c .complete .ensures) None low;
+      after = left (e .laws) shape ok run fits done (c .complete .ensures) None low;
+      passes = λ _. passing;
+      only = only (e .laws) shape ok (groups (e .zero) (M shape) run);
+      coders = λ _. joined passing (codeblock-reproduced (e .laws) shape ok tables hold run fits, reproduced-codeblock (e .laws) shape ok tables hold run fits);
     }

@@ -7,6 +7,7 @@ use Rattle.qc.specs.Shape.{sent, known}
 use Rattle.qc.specs.Segments.{Written}
 use Rattle.qc.proofs.Soundness.{sounds, whole-small}
 use Rattle.qc.proofs.Completion.{group-more}
+use Rattle.qc.proofs.Apartness.{known-apart, apart-given}
 use Rattle.qc.proofs.Verdicts.{View, view-is, viewed, made-completed, readable-given}
 use Rattle.qc.proofs.syndrome.complete.Needs as need
 
@@ -36,7 +37,8 @@ write-group-requires g c κs =
     let is : (c .message-groups .result + 2) * (4 * length (c .args .sums .now)) ≡ sent shape = ap₂ (λ k m. (k + 2) * (4 * m)) (c .message-groups .ensures) (c .pre .segment) in
     record {
       short = omega (arith, ok .short, c .pre .segment);
-      readable = readable-given shape ok (known shape) (shape .K + 2) _ (omega (arith, is)) (ok .known-sound) _ _ _ (c .pre .segment) (c .table .ensures) (c .known-terms .ensures);
+      readable = readable-given shape ok (known shape) (shape .K + 2) _ (omega (arith, more, c .pre .there)) (ok .known-sound) _ _ _ (c .pre .segment) (c .table .ensures) (c .known-terms .ensures);
+      apart = apart-given shape (known shape) _ (known-apart shape ok) _ _ (c .table .result .now) _ (c .pre .segment) (c .table .ensures) (c .known-terms .ensures) is;
       there = omega (arith, more, is, c .pre .segment, c .pre .there);
     }
 
