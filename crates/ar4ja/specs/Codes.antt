@@ -9,11 +9,14 @@ use Rattle.qc.specs.declared.terms.Permutation.{Permutation}
 use Rattle.qc.specs.Equation.{Equation, Operator.Π, Operator._⊞_}
 use Rattle.qc.specs.Shape.{Shape}
 use Rattle.qc.specs.Sound.{sound}
+use Rattle.qc.specs.Coding.{Tables}
+use Rattle.qc.specs.Rules.{tabulated}
 use Rattle.ar4ja.specs.declared.codes.Code.{Code}
 use Rattle.ar4ja.specs.declared.codes.Code.the-variants.{Half1024, TwoThirds1024, FourFifths1024}
 use Rattle.ar4ja.specs.declared.codes.CodeFault.the-variants.{Unknown}
 use Rattle.ar4ja.specs.Refusals.{code-fault}
 use Rattle.ar4ja.specs.Permutations.{half-1024, two-thirds-1024, four-fifths-1024}
+use Rattle.ar4ja.specs.Tables.{half-generator, half-inverse, two-thirds-generator, two-thirds-inverse, four-fifths-generator, four-fifths-inverse}
 use Rattle.ar4ja.specs.Rates.{half-second, half-third, two-thirds-second, two-thirds-third, four-fifths-second, four-fifths-third}
 
 abbrev pub number-of : Code → ℕ
@@ -45,3 +48,16 @@ unfolding sound half-1024 two-thirds-1024 four-fifths-1024 half-second half-thir
 shapes-sound Half1024 = refl
 shapes-sound TwoThirds1024 = refl
 shapes-sound FourFifths1024 = refl
+
+abbrev pub tables-of : Code → Tables
+tables-of Half1024 = record { generator = half-generator; inverse = half-inverse }
+tables-of TwoThirds1024 = record { generator = two-thirds-generator; inverse = two-thirds-inverse }
+tables-of FourFifths1024 = record { generator = four-fifths-generator; inverse = four-fifths-inverse }
+
+-- the block of each message element r·m alone passes, and the inverse is one from both sides: one computed
+-- test of each code's whole tables
+pub tables-ruled : (c : Code) → tabulated (shape-of c) (tables-of c) ≡ true
+unfolding tabulated half-1024 two-thirds-1024 four-fifths-1024 half-second half-third two-thirds-second two-thirds-third four-fifths-second four-fifths-third half-generator half-inverse two-thirds-generator two-thirds-inverse four-fifths-generator four-fifths-inverse
+tables-ruled Half1024 = refl
+tables-ruled TwoThirds1024 = refl
+tables-ruled FourFifths1024 = refl

@@ -5,11 +5,12 @@ ghost use Prim.Native.Nat.{_+_};
 ghost use lib.ListN.{length};
 ghost use Rattle.refusal.specs.Outcome.{outcome};
 ghost use Rattle.qc.specs.Shape.{M, sent, whole};
-ghost use Rattle.ar4ja.specs.Codes.{shape-of, shapes-sound, number-of, named};
+ghost use Rattle.ar4ja.specs.Codes.{shape-of, tables-of, shapes-sound, tables-ruled, number-of, named};
 ghost use Rattle.ar4ja.specs.Refusals.{code-fault};
 ghost use Rattle.ar4ja.specs.Worked.{worked, all-agree};
 use crate::permutations::*;
 use crate::rows::*;
+use crate::tables::*;
 use qc::Permutation;
 use qc::QuasiCyclic;
 use qc::Term;
@@ -112,7 +113,11 @@ impl Code {
 pub impl QuasiCyclic for Code as CodeQuasiCyclic {
     ghost shape = { shape-of };
 
+    ghost tables = { tables-of };
+
     ghost lawful = { shapes-sound };
+
+    ghost ruled = { tables-ruled };
 
     fn message_groups(self) -> usize {
         match self {
@@ -159,6 +164,46 @@ pub impl QuasiCyclic for Code as CodeQuasiCyclic {
             Code::Half1024 => &HALF_THIRD,
             Code::TwoThirds1024 => &TWO_THIRDS_THIRD,
             Code::FourFifths1024 => &FOUR_FIFTHS_THIRD,
+        }
+    }
+
+    fn message_terms(self) -> &'static [Term] {
+        match self {
+            Code::Half1024 => &HALF_MESSAGE,
+            Code::TwoThirds1024 => &TWO_THIRDS_MESSAGE,
+            Code::FourFifths1024 => &FOUR_FIFTHS_MESSAGE,
+        }
+    }
+
+    fn asked_terms(self) -> &'static [Term] {
+        match self {
+            Code::Half1024 => &HALF_ASKED,
+            Code::TwoThirds1024 => &TWO_THIRDS_ASKED,
+            Code::FourFifths1024 => &FOUR_FIFTHS_ASKED,
+        }
+    }
+
+    fn closing_terms(self) -> &'static [Term] {
+        match self {
+            Code::Half1024 => &HALF_CLOSING,
+            Code::TwoThirds1024 => &TWO_THIRDS_CLOSING,
+            Code::FourFifths1024 => &FOUR_FIFTHS_CLOSING,
+        }
+    }
+
+    fn generator(self) -> &'static [u32] {
+        match self {
+            Code::Half1024 => &HALF_GENERATOR,
+            Code::TwoThirds1024 => &TWO_THIRDS_GENERATOR,
+            Code::FourFifths1024 => &FOUR_FIFTHS_GENERATOR,
+        }
+    }
+
+    fn inverse(self) -> &'static [u32] {
+        match self {
+            Code::Half1024 => &HALF_INVERSE,
+            Code::TwoThirds1024 => &TWO_THIRDS_INVERSE,
+            Code::FourFifths1024 => &FOUR_FIFTHS_INVERSE,
         }
     }
 }

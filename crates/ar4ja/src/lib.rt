@@ -3,6 +3,7 @@
 mod codes;
 mod permutations;
 mod rows;
+mod tables;
 
 pub use codes::Code;
 pub use codes::CodeFault;
