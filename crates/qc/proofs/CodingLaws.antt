@@ -17,7 +17,7 @@ use Rattle.qc.specs.Segments.{segments, segment-sum}
 use Rattle.qc.specs.Circulant.{sum, act, turn, shift}
 use Rattle.qc.specs.Codeblock.{groups, AllZero, Codeblock, completed}
 use Rattle.qc.specs.Rules.{table-z}
-use Rattle.qc.specs.Coding.{Tables, first-row, parity, rows-a, rows-b, rows-z, with-parity, encoded, SameMessage, Coded, Linear, Turns, Reproduced}
+use Rattle.qc.specs.Coding.{Tables, first-row, parity, rows-a, rows-b, rows-z, with-parity, encoded, SameMessage, Coded, Linear, ZeroBlock, Turns, Reproduced}
 use Rattle.qc.proofs.Sums.{equal, swap, sum-ext, sum-plus}
 use Rattle.qc.proofs.FirstRows.{act-same, act-plus, act-shift}
 use Rattle.qc.proofs.Firsts.{terms-same, terms-plus, terms-turn, operator-alike}
@@ -215,6 +215,10 @@ module _ {E : Type 0} {none : E} {plus : E → E → E} {same : E → E → Bool
                ∙ terms-plus laws c (operator-terms (c .Q) 0) (λ j. parity none plus c t (segments none (c .m) xs) (4 + j)) (λ j. parity none plus c t (segments none (c .m) ys) (4 + j)) j s)
           ∙ swap laws _ _ _ _
           ∙ sym (ap₂ plus (encoded-z xs fx j s hj hs) (encoded-z ys fy j s hj hs))
+
+  pub zero-block : ZeroBlock none plus c t
+  zero-block xs fits zeros i h =
+      is-linear xs xs xs fits fits fits (λ i l. zeros i l ∙ sym (laws .neutral none) ∙ sym (ap₂ plus (zeros i l) (zeros i l))) i h ∙ laws .cancels _
 
   pub is-turning : Turns none plus c t
   is-turning xs zs fx fz turned n s hn hs =

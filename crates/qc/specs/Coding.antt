@@ -78,6 +78,12 @@ module _ {E : Type 0} (none : E) (plus : E → E → E) (c : Shape) (t : Tables)
       → ((i : ℕ) → i < c .K * M c → getD zs i none ≡ plus (getD xs i none) (getD ys i none))
       → (i : ℕ) → i < whole c → getD (encoded zs) i none ≡ plus (getD (encoded xs) i none) (getD (encoded ys) i none)
 
+  -- a message of zeros has a block of zeros
+  abbrev pub ZeroBlock : Type 0
+  ZeroBlock =
+      (xs : List E) → whole c ≤ length xs → ((i : ℕ) → i < c .K * M c → getD xs i none ≡ none)
+      → (i : ℕ) → i < whole c → getD (encoded xs) i none ≡ none
+
   -- a message with each segment turned one place has the block with each segment turned one place
   abbrev pub Turns : Type 0
   Turns =

@@ -5,7 +5,7 @@ ghost use lib.ListN.{length};
 ghost use Rattle.refusal.specs.Outcome.{outcome};
 ghost use Rattle.qc.specs.Refusals.{run-fault};
 ghost use Rattle.qc.specs.Shape.{whole};
-ghost use Rattle.qc.specs.Coding.{encoded, encoded-run, encode-answer, Coded, Linear, Turns};
+ghost use Rattle.qc.specs.Coding.{encoded, encoded-run, encode-answer, Coded, Linear, ZeroBlock, Turns};
 use crate::answers::RunFault;
 use crate::circulant::Product;
 use crate::circulant::write_product;
@@ -18,13 +18,15 @@ use element::Element;
 
 // A coder keeps the message at the front of a run and writes behind it the parity and the punctured group
 // that make all rows zero. Its block is the only one of the message with that; the block of a sum of
-// messages is the sum of their blocks, and a message with each segment turned has the block so turned.
+// messages is the sum of their blocks, that of zeros is zeros, and a message with each segment turned has the
+// block so turned.
 pub trait Coder {
     fn encode<C: QuasiCyclic, E: Element>(&self, code: C, run: &mut [E]) -> Result<(), RunFault>
         ensures answer { λ r. ⌜ outcome run-fault r ≡ encode-answer zero plus (shape code) (tables code) (now (run .entry)) ⌝ }
         ensures after { λ _. ⌜ now (run .exit) ≡ encoded-run zero plus (shape code) (tables code) (now (run .entry)) ⌝ }
         ensures coded { λ _. ⌜ (whole (shape code) ≤ length (now (run .entry)) → Coded zero plus (shape code) (tables code) (now (run .entry))) ⌝ }
         ensures linear { λ _. ⌜ Linear zero plus (shape code) (tables code) ⌝ }
+        ensures zeros { λ _. ⌜ ZeroBlock zero plus (shape code) (tables code) ⌝ }
         ensures turns { λ _. ⌜ Turns zero plus (shape code) (tables code) ⌝ };
 }
 

@@ -1,6 +1,6 @@
 use Rattle.qc.proofs.Soundness.{sounds}
 use Rattle.qc.proofs.Tabulated.{tables-hold}
-use Rattle.qc.proofs.CodingLaws.{is-coded, is-linear, is-turning}
+use Rattle.qc.proofs.CodingLaws.{is-coded, is-linear, zero-block, is-turning}
 use Rattle.qc.proofs.coders.CheckCoderCoder.encode.Needs as need
 
 pub returns : need.returns
@@ -15,5 +15,6 @@ returns g c =
       after = c .encode-with .ensures .after;
       coded = λ fits. is-coded (e .laws) shape ok tables hold (c .args .run .now) fits;
       linear = is-linear (e .laws) shape ok tables hold;
+      zeros = zero-block (e .laws) shape ok tables hold;
       turns = is-turning (e .laws) shape ok tables hold;
     }
