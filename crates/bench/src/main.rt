@@ -1,4 +1,4 @@
-// Times one check of a block, for each code and element kind. It times only when given a word, since a
+// Times one check of a block and one coding of a message by each coder, for each code and element kind. It times only when given a word, since a
 // run without one is compared with a kept output.
 use ar4ja::Code;
 use ar4ja::CodeQuasiCyclic;
@@ -9,6 +9,11 @@ use element::Form;
 use element::FormElement;
 use element::Lanes;
 use element::LanesElement;
+use qc::CheckCoder;
+use qc::CheckCoderCoder;
+use qc::Coder;
+use qc::TableCoder;
+use qc::TableCoderCoder;
 use qc::Verdict;
 use std::env;
 use std::error::AnyError;
@@ -16,6 +21,7 @@ use std::time::Instant;
 
 const CODES: [Code; 3] = [Code::Half1024, Code::TwoThirds1024, Code::FourFifths1024];
 const CALLS: u64 = 2000;
+const CODINGS: u64 = 100;
 const ROUNDS: u64 = 50;
 
 // The shortest time of a call, in nanoseconds, over some rounds of many calls.
@@ -38,9 +44,26 @@ fn best_check<E: Element + Clone>(rt: &LibcRuntime, code: Code) -> Result<u64, A
     Ok(best)
 }
 
+fn best_coding<K: Coder, E: Element + Clone>(rt: &LibcRuntime, coder: &K, code: Code) -> Result<u64, AnyError> {
+    let mut block = vec![in rt.alloc(); E::zero(); code.whole_len()]?;
+    let mut best = u64::MAX;
+    for _ in 0..ROUNDS {
+        let start = Instant::now(rt)?;
+        for _ in 0..CODINGS {
+            let _ = coder.encode(code, &mut block);
+        }
+        let spent = start.elapsed(rt)?.as_nanos();
+        best = best.min(u64::try_from(spent).unwrap_or(u64::MAX) / CODINGS);
+    }
+    Ok(best)
+}
+
 fn time_kind<E: Element + Clone>(rt: &LibcRuntime, kind: &str) -> Result<(), AnyError> {
     for code in CODES {
-        println!(rt, "check, code {}, {kind}: {} ns", code.number(), best_check::<E>(rt, code)?)?;
+        let n = code.number();
+        println!(rt, "code {n}, {kind}: check {} ns", best_check::<E>(rt, code)?)?;
+        println!(rt, "code {n}, {kind}: table coder {} ns", best_coding::<TableCoderCoder, E>(rt, &TableCoder, code)?)?;
+        println!(rt, "code {n}, {kind}: check coder {} ns", best_coding::<CheckCoderCoder, E>(rt, &CheckCoder, code)?)?;
     }
     Ok(())
 }

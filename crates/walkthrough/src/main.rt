@@ -3,6 +3,12 @@ use ar4ja::Code;
 use ar4ja::CodeQuasiCyclic;
 use element::Bit;
 use element::BitElement;
+use element::BitPartialEq;
+use qc::CheckCoder;
+use qc::CheckCoderCoder;
+use qc::Coder;
+use qc::TableCoder;
+use qc::TableCoderCoder;
 use qc::Verdict;
 use std::alloc::AllocError;
 use std::alloc::Global;
@@ -18,25 +24,39 @@ fn bit(word: u32, place: u32) -> Bit {
     if (word >> (31 - place % 32)) % 2 == 1 { Bit::One } else { Bit::Zero }
 }
 
-// A block of zeros with room for its punctured bits behind it, and `set` set.
-fn message_with(heap: Global, code: Code, set: usize) -> Result<Vec<Bit>, AllocError> {
-    let mut block = vec![in heap; Bit::Zero; code.whole_len()]?;
-    if set < block.len() {
-        block[set] = Bit::One;
-    }
-    Ok(block)
+// A block of zeros with room for its punctured bits behind it.
+fn empty_block(heap: Global, code: Code) -> Result<Vec<Bit>, AllocError> {
+    vec![in heap; Bit::Zero; code.whole_len()]
 }
 
-// Writes the words of a parity behind the message.
-fn write_parity(block: &mut [Bit], words: &[u32]) {
+fn set_bit(block: &mut [Bit], place: usize) {
+    if place < block.len() {
+        block[place] = Bit::One;
+    }
+}
+
+// Writes words, most significant bit first, from a place of the block on.
+fn write_words(block: &mut [Bit], from: usize, words: &[u32]) {
     for (i, word) in words.iter().enumerate() {
         for place in 0..32u32 {
-            let at = 1024 + 32 * i.min(64) + place as usize;
+            let at = from.saturating_add(i.saturating_mul(32)).saturating_add(place as usize);
             if at < block.len() {
                 block[at] = bit(*word, place);
             }
         }
     }
+}
+
+// The word that 32 bits of the block make, from a place on.
+fn word_at(block: &[Bit], from: usize) -> u32 {
+    let mut word: u32 = 0;
+    for b in block.iter().skip(from).take(32) {
+        word = (word & 0x7fff_ffff) << 1;
+        if *b == Bit::One {
+            word |= 1;
+        }
+    }
+    word
 }
 
 fn tell(rt: &impl Print, code: Code, block: &mut [Bit]) -> Result<(), AnyError> {
@@ -50,19 +70,51 @@ fn tell(rt: &impl Print, code: Code, block: &mut [Bit]) -> Result<(), AnyError> 
 
 fn check_printed_codeblock(rt: &LibcRuntime) -> Result<(), AnyError> {
     let code = Code::FourFifths1024;
-    let mut block = message_with(rt.alloc(), code, 992)?;
-    write_parity(&mut block, &PRINTED_PARITY);
+    let mut block = empty_block(rt.alloc(), code)?;
+    set_bit(&mut block, 992);
+    write_words(&mut block, 1024, &PRINTED_PARITY);
     let sent = code.block_len();
     println!(rt, "The codeblock of rate 4/5 whose message has only bit 992 set, with the parity that the standard prints:")?;
     println!(rt, "  {sent} bits are sent, and {} more are punctured and worked out again.", code.group_len())?;
     tell(rt, code, &mut block)?;
     println!(rt, "The same block with its bit 1000 damaged:")?;
-    if 1000 < block.len() {
-        block[1000] = Bit::One;
-    }
+    set_bit(&mut block, 1000);
     tell(rt, code, &mut block)
 }
 
+// The bytes 0 to 127, four to a word.
+fn counting_words(heap: Global) -> Result<Vec<u32>, AllocError> {
+    let mut words = Vec::new(heap);
+    for i in 0..32u32 {
+        words.push(4 * i * 0x0101_0101 + 0x0001_0203)?;
+    }
+    Ok(words)
+}
+
+// Codes the message of the bytes 0 to 127 both ways.
+fn code_both_ways(rt: &LibcRuntime) -> Result<(), AnyError> {
+    let code = Code::TwoThirds1024;
+    let words = counting_words(rt.alloc())?;
+    let mut by_table = empty_block(rt.alloc(), code)?;
+    write_words(&mut by_table, 0, &words);
+    let mut by_rows = empty_block(rt.alloc(), code)?;
+    write_words(&mut by_rows, 0, &words);
+    let _ = TableCoder.encode(code, &mut by_table);
+    let _ = CheckCoder.encode(code, &mut by_rows);
+    println!(rt, "The message of the bytes 0 to 127, coded at rate 2/3 by the generator table and by the rows:")?;
+    let begins = word_at(&by_table, 1024);
+    let ends = word_at(&by_table, 1504);
+    println!(rt, "  the parity begins {begins:08X} and ends {ends:08X};")?;
+    let verdict = if by_table == by_rows { "the same" } else { "NOT the same" };
+    println!(rt, "  the two coders made {verdict} block, punctured bits and all.")?;
+    tell(rt, code, &mut by_rows)
+}
+
+fn run(rt: &LibcRuntime) -> Result<(), AnyError> {
+    check_printed_codeblock(rt)?;
+    code_both_ways(rt)
+}
+
 fn main(rt: LibcRuntime) -> Result<(), AnyError> {
-    rt.report(check_printed_codeblock(&rt))
+    rt.report(run(&rt))
 }
