@@ -6,7 +6,11 @@ mod rows;
 mod tables;
 
 pub use codes::Code;
+pub use codes::CodeDebug;
 pub use codes::CodeFault;
+pub use codes::CodeFaultDebug;
+pub use codes::CodeFaultPartialEq;
 pub use codes::CodeFaultRefusal;
+pub use codes::CodePartialEq;
 pub use codes::CodeQuasiCyclic;
 pub use codes::worked_values;

@@ -9,8 +9,12 @@ mod syndrome;
 mod terms;
 
 pub use answers::RunFault;
+pub use answers::RunFaultDebug;
+pub use answers::RunFaultPartialEq;
 pub use answers::RunFaultRefusal;
 pub use answers::Verdict;
+pub use answers::VerdictDebug;
+pub use answers::VerdictPartialEq;
 pub use coders::CheckCoder;
 pub use coders::CheckCoderCoder;
 pub use coders::Coder;
