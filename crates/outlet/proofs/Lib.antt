@@ -1,0 +1,3 @@
+pub mod Layered
+pub mod Tested
+pub mod Recurrence

@@ -1,0 +1,21 @@
+// Outlets: where bits go, by meaning. An outlet holds a list of bits and takes more at its end, up to a
+// capacity that never changes. A layer is an outlet over another one that shows its bits changed.
+mod faults;
+mod interface;
+mod inverting;
+mod randomizing;
+mod reference;
+mod sequence;
+
+pub use faults::PlaceFault;
+pub use faults::PlaceFaultRefusal;
+pub use faults::TakeFault;
+pub use faults::TakeFaultRefusal;
+pub use interface::Outlet;
+pub use inverting::Inverter;
+pub use inverting::InverterOutlet;
+pub use randomizing::Randomizer;
+pub use randomizing::RandomizerOutlet;
+pub use reference::MutOutlet;
+pub use sequence::randomizing_bit;
+pub use sequence::sequence_period;
