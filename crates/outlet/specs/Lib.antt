@@ -5,3 +5,7 @@ pub mod Bytes
 pub mod Sequence
 pub mod Masks
 pub mod LayerLaws
+pub mod Packing
+pub mod PackedLaws
+pub mod Leveling
+pub mod LevelLaws

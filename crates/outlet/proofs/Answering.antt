@@ -1,0 +1,35 @@
+-- What an outlet has to show of an answer: which way a call went, in each case.
+use mathlib.Core.Path.{_≡_, sym, ap, _∙_}
+use mathlib.Core.List.{List, [], _∷_, _++_}
+use Prim.Native.Nat.{ℕ, _+_, _<_, _≤_}
+use native.Mathlib.Omega.{arith}
+use lib.Dec.{leb, ltb}
+use lib.ListN.{length, getD}
+use Rattle.std.proofs.shelf.Tests.{cond-true, cond-false, le-leb, lt-leb, lt-ltb, le-ltb}
+use Rattle.element.specs.declared.Bit.{Bit}
+use Rattle.element.specs.declared.Bit.the-variants.{Zero}
+use Rattle.refusal.specs.Outcome.{Outcome, Outcome.done, Outcome.refused}
+use Rattle.outlet.specs.declared.faults.TakeFault.the-variants.{Full}
+use Rattle.outlet.specs.declared.faults.PlaceFault.the-variants.{NotHeld}
+use Rattle.outlet.specs.Refusals.{take-fault, place-fault}
+use Rattle.outlet.specs.Meaning.{take-answer, taken, bit-answer}
+
+module _ (b : Bit) (old : List Bit) (room : ℕ) where
+  pub full-answer : room ≤ length old → refused (take-fault Full) ≡ take-answer (b ∷ []) old room
+  full-answer h = sym (cond-false (leb (length old + 1) room) (done tt) (refused (take-fault Full)) (lt-leb (length old + 1) room (omega arith)))
+
+  pub full-after : room ≤ length old → old ≡ taken (b ∷ []) old room
+  full-after h = sym (cond-false (leb (length old + 1) room) (old ++ (b ∷ [])) old (lt-leb (length old + 1) room (omega arith)))
+
+  pub done-answer : length old < room → done tt ≡ take-answer (b ∷ []) old room
+  done-answer h = sym (cond-true (leb (length old + 1) room) (done tt) (refused (take-fault Full)) (le-leb (length old + 1) room (omega arith)))
+
+  pub done-after : length old < room → old ++ (b ∷ []) ≡ taken (b ∷ []) old room
+  done-after h = sym (cond-true (leb (length old + 1) room) (old ++ (b ∷ [])) old (le-leb (length old + 1) room (omega arith)))
+
+module _ (held : List Bit) (place : ℕ) where
+  pub read-answer : place < length held → done (getD held place Zero) ≡ bit-answer held place
+  read-answer h = sym (cond-true (ltb place (length held)) (done (getD held place Zero)) (refused (place-fault NotHeld)) (lt-ltb place (length held) h))
+
+  pub not-held : length held ≤ place → refused (place-fault NotHeld) ≡ bit-answer held place
+  not-held h = sym (cond-false (ltb place (length held)) (done (getD held place Zero)) (refused (place-fault NotHeld)) (le-ltb place (length held) h))
