@@ -13,8 +13,14 @@ mod reference;
 mod sequence;
 
 pub use faults::PlaceFault;
+pub use faults::PlaceFaultDebug;
+pub use faults::PlaceFaultEq;
+pub use faults::PlaceFaultPartialEq;
 pub use faults::PlaceFaultRefusal;
 pub use faults::TakeFault;
+pub use faults::TakeFaultDebug;
+pub use faults::TakeFaultEq;
+pub use faults::TakeFaultPartialEq;
 pub use faults::TakeFaultRefusal;
 pub use interface::Outlet;
 pub use inverting::Inverter;

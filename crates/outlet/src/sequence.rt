@@ -7,9 +7,11 @@ ghost use Rattle.element.specs.declared.Bit.the-variants.{One};
 ghost use Rattle.outlet.specs.Sequence.{s, byte-from};
 use element::Bit;
 
-// One period of the sequence, 255 bits, and the first bit of the next, the most significant bit of each
-// word first.
-const PERIOD: [u32; 8] = [
+// After so many bits the sequence begins again.
+const PERIOD: usize = 255;
+
+// One period of the sequence and the first bit of the next, the most significant bit of each word first.
+const TABLE: [u32; 8] = [
     0xff480ec0,
     0x9a0d70bc,
     0x8e2c93ad,
@@ -24,8 +26,8 @@ const PERIOD: [u32; 8] = [
 pub fn randomizing_bit(i: usize) -> Bit
     ensures { λ r. ⌜ r ≡ s i ⌝ }
 {
-    let k = i % 255;
-    let word = PERIOD[k / 32];
+    let k = i % PERIOD;
+    let word = TABLE[k / 32];
     if (word >> (31 - k % 32)) % 2 == 0 {
         Bit::Zero
     } else {
@@ -42,5 +44,5 @@ pub fn sequence_period() -> usize
     ensures rule { λ _. ⌜ ((i : ℕ) → s (i + 8) ≡ bit-plus (bit-plus (bit-plus (s (i + 7)) (s (i + 5))) (s (i + 3))) (s i)) ⌝ }
     ensures worked { λ _. ⌜ map byte-from (0 ∷ 8 ∷ 16 ∷ 24 ∷ 32 ∷ 255 ∷ []) ≡ 0xff ∷ 0x48 ∷ 0x0e ∷ 0xc0 ∷ 0x9a ∷ 0xff ∷ [] ⌝ }
 {
-    255
+    PERIOD
 }
