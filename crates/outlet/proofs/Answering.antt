@@ -1,5 +1,5 @@
 -- What an outlet has to show of an answer: which way a call went, in each case.
-use mathlib.Core.Path.{_≡_, sym, ap, _∙_}
+use mathlib.Core.Path.{_≡_, sym}
 use mathlib.Core.List.{List, [], _∷_, _++_}
 use Prim.Native.Nat.{ℕ, _+_, _<_, _≤_}
 use native.Mathlib.Omega.{arith}
@@ -8,7 +8,7 @@ use lib.ListN.{length, getD}
 use Rattle.std.proofs.shelf.Tests.{cond-true, cond-false, le-leb, lt-leb, lt-ltb, le-ltb}
 use Rattle.element.specs.declared.Bit.{Bit}
 use Rattle.element.specs.declared.Bit.the-variants.{Zero}
-use Rattle.refusal.specs.Outcome.{Outcome, Outcome.done, Outcome.refused}
+use Rattle.refusal.specs.Outcome.{Outcome.done, Outcome.refused}
 use Rattle.outlet.specs.declared.faults.TakeFault.the-variants.{Full}
 use Rattle.outlet.specs.declared.faults.PlaceFault.the-variants.{NotHeld}
 use Rattle.outlet.specs.Refusals.{take-fault, place-fault}

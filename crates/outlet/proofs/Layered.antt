@@ -3,19 +3,18 @@ use mathlib.Core.Path.{_≡_, refl, sym, ap, ap₂, _∙_}
 use mathlib.Core.Bool.{Bool, true, false, cond}
 use mathlib.Core.Logic.{inl, inr}
 use mathlib.Core.List.{List, [], _∷_, _++_}
-use Prim.Native.Nat.{ℕ, zero, suc, _+_, _-_, _%_, _<_, _≤_}
+use Prim.Native.Nat.{ℕ, zero, suc, _+_, _-_, _%_, _<_}
 use native.Mathlib.Nat.{zero-add, suc-add, add-zero, le-of-suc-le-suc, not-suc-le-zero}
 use native.Mathlib.Omega.{arith}
 use lib.Dec.{leb, ltb}
 use lib.ListN.{length, getD}
-use Rattle.std.proofs.shelf.Tests.{cases-bool, cond-true, cond-false, lt-ltb, ltb-true, ltb-false}
-use Rattle.std.specs.declared.result.Result.{Result}
-use Rattle.std.specs.declared.result.Result.the-variants.{Ok, Err}
+use Rattle.std.proofs.shelf.Tests.{cases-bool, cond-true, cond-false, lt-ltb, ltb-true}
 use Rattle.element.specs.declared.Bit.{Bit}
 use Rattle.element.specs.declared.Bit.the-variants.{Zero, One}
 use Rattle.element.specs.Bits.{bit-plus, bit-laws}
-use Rattle.refusal.specs.Outcome.{Outcome, Outcome.done, Outcome.refused, outcome}
-use Rattle.outlet.specs.Masks.{masked, in-frame, randomizing, length-masked}
+use Rattle.refusal.specs.Outcome.{Numbered, Outcome, Outcome.done, Outcome.refused}
+use Rattle.ar4ja.specs.declared.codes.Code.{Code}
+use Rattle.outlet.specs.Masks.{masked, in-frame, frame-bits, randomizing, length-masked}
 use Rattle.outlet.specs.Meaning.{take-answer, taken, bit-answer}
 use Rattle.outlet.specs.Refusals.{take-fault, place-fault}
 use Rattle.outlet.specs.declared.faults.TakeFault.the-variants.{Full}
@@ -49,7 +48,7 @@ masked-none m (x ∷ xs) h =
     (ap (bit-plus x) (h 0 (omega arith)) ∙ plus-zero x)
     (masked-none (λ k. m (suc k)) xs (λ k l. h (suc k) (omega arith)))
 
--- a layer answers what the outlet below answers, since it holds as many bits
+-- a layer answers a take as the outlet below does, since it holds as many bits
 pub masked-answer : (m : ℕ → Bit) (old : List Bit) (room : ℕ) (b : Bit) → take-answer (b ∷ []) old room ≡ take-answer (b ∷ []) (masked m old) room
 masked-answer m old room b = ap (λ n. cond (leb (n + 1) room) (done tt) (refused (take-fault Full))) (sym (length-masked m old))
 
@@ -59,19 +58,23 @@ masked-push m old b =
     ∙ ap (λ n. masked m old ++ (bit-plus (bit-plus b (m (length old))) (m n) ∷ [])) (add-zero (length old))
     ∙ ap (λ (x : Bit). masked m old ++ (x ∷ [])) (plus-twice b (m (length old)))
 
-pub masked-taken : (m : ℕ → Bit) (old : List Bit) (room : ℕ) (b : Bit) → masked m (taken (bit-plus b (m (length old)) ∷ []) old room) ≡ taken (b ∷ []) (masked m old) room
+masked-taken : (m : ℕ → Bit) (old : List Bit) (room : ℕ) (b : Bit) → masked m (taken (bit-plus b (m (length old)) ∷ []) old room) ≡ taken (b ∷ []) (masked m old) room
 masked-taken m old room b =
     let either : (t : Bool) → masked m (cond t (old ++ (bit-plus b (m (length old)) ∷ [])) old) ≡ cond t (masked m old ++ (b ∷ [])) (masked m old)
     = λ t. elim t as (λ v. masked m (cond v (old ++ (bit-plus b (m (length old)) ∷ [])) old) ≡ cond v (masked m old ++ (b ∷ [])) (masked m old)) [ true ↦ masked-push m old b | false ↦ refl ] in
     either (leb (length old + 1) room)
     ∙ ap (λ n. cond (leb (n + 1) room) (masked m old ++ (b ∷ [])) (masked m old)) (sym (length-masked m old))
 
+-- the bits that a layer shows after a take
+pub masked-step : (m : ℕ → Bit) (old new : List Bit) (room : ℕ) (b x : Bit) → x ≡ bit-plus b (m (length old)) → new ≡ taken (x ∷ []) old room → masked m new ≡ taken (b ∷ []) (masked m old) room
+masked-step m old new room b x e h = ap (masked m) (h ∙ ap (λ (y : Bit). taken (y ∷ []) old room) e) ∙ masked-taken m old room b
+
 -- an outcome with a function of its value
-abbrev pub through : (Bit → Bit) → Outcome Bit → Outcome Bit
+abbrev through : (Bit → Bit) → Outcome Bit → Outcome Bit
 through f (done b) = done (f b)
 through f (refused n) = refused n
 
-pub masked-bit : (m : ℕ → Bit) (held : List Bit) (place : ℕ) → through (λ b. bit-plus b (m place)) (bit-answer held place) ≡ bit-answer (masked m held) place
+masked-bit : (m : ℕ → Bit) (held : List Bit) (place : ℕ) → through (λ b. bit-plus b (m place)) (bit-answer held place) ≡ bit-answer (masked m held) place
 masked-bit m held place = elim (cases-bool (ltb place (length held))) [
   | inl e ↦
       ap (through (λ b. bit-plus b (m place))) (cond-true _ (done (getD held place Zero)) (refused (place-fault NotHeld)) e)
@@ -82,6 +85,13 @@ masked-bit m held place = elim (cases-bool (ltb place (length held))) [
       ∙ sym (cond-false _ (done (getD (masked m held) place Zero)) (refused (place-fault NotHeld)) (ap (ltb place) (length-masked m held) ∙ e))
 ]
 
+-- the bit that a layer shows at a place
+pub masked-read : (m : ℕ → Bit) (held : List Bit) (place : ℕ) (b x : Bit) → x ≡ bit-plus b (m place) → done b ≡ bit-answer held place → done x ≡ bit-answer (masked m held) place
+masked-read m held place b x e h = ap done e ∙ ap (through (λ y. bit-plus y (m place))) h ∙ masked-bit m held place
+
+pub masked-refusal : (m : ℕ → Bit) (held : List Bit) (place : ℕ) (n : Numbered) → refused n ≡ bit-answer held place → refused n ≡ bit-answer (masked m held) place
+masked-refusal m held place n h = ap (through (λ y. bit-plus y (m place))) h ∙ masked-bit m held place
+
 -- before its start place a randomizer adds nothing
-pub not-yet : (start F : ℕ) (held : List Bit) → start ≡ length held → masked (randomizing start F) held ≡ held
-not-yet start F held e = masked-none (randomizing start F) held (λ k h. cond-true (ltb k start) Zero (in-frame ((k - start) % F)) (lt-ltb k start (omega arith)))
+pub not-yet : (start : ℕ) (code : Code) (held : List Bit) → start ≡ length held → masked (randomizing start code) held ≡ held
+not-yet start code held e = masked-none (randomizing start code) held (λ k h. cond-true (ltb k start) Zero (in-frame ((k - start) % frame-bits code)) (lt-ltb k start (omega arith)))

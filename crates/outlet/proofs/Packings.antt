@@ -1,11 +1,11 @@
 -- A bit written among bytes, and what the bytes are after any number of takes.
-use mathlib.Core.Path.{_≡_, refl, sym, ap, ap₂, subst, _∙_}
-use mathlib.Core.Logic.{inl, inr, _⊎_}
-use mathlib.Core.Bool.{Bool, true, false, cond}
+use mathlib.Core.Path.{_≡_, sym, ap, ap₂, subst, _∙_}
+use mathlib.Core.Logic.{inl, inr}
+use mathlib.Core.Bool.{Bool, cond}
 use mathlib.Core.List.{List, [], _∷_, _++_, map}
-use Prim.Native.Nat.{ℕ, _+_, _-_, _*_, _/_, _%_, _^_, _<_, _≤_}
+use Prim.Native.Nat.{ℕ, _+_, _-_, _*_, _/_, _%_, _<_}
 use native.Mathlib.Omega.{arith}
-use lib.Dec.{eqb, ltb}
+use lib.Dec.{ltb}
 use lib.ListN.{length, getD, set}
 use Rattle.std.specs.Iters.{counting}
 use Rattle.std.proofs.shelf.Tests.{cases-eq, cases-lt, lt-ltb, le-ltb, cond-true, cond-false}
@@ -13,7 +13,7 @@ use Rattle.std.proofs.shelf.Ways.{tells}
 use Rattle.std.proofs.shelf.Lists.{getD-set-same, getD-set-other, getD-past, ext-getD, length-set}
 use Rattle.std.proofs.shelf.Counted.{length-map-counting, getD-map-counting, map-counting-more, fill-by-all}
 use Rattle.element.specs.declared.Bit.{Bit}
-use Rattle.element.specs.declared.Bit.the-variants.{Zero, One}
+use Rattle.element.specs.declared.Bit.the-variants.{Zero}
 use Rattle.outlet.specs.Bytes.{weight, bit-of, pack}
 use Rattle.outlet.specs.Packing.{place-bit, packed-bits, byte-with, Made, Packs, byte-after, bytes-after}
 use Rattle.outlet.proofs.Digits.{bit-before, bit-there, with-made, pack-same}

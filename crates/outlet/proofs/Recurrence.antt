@@ -1,7 +1,5 @@
 -- The sequence meets its rule and repeats after 255 bits, and the table is one period of it.
-use mathlib.Core.Path.{_≡_, refl, sym, ap, subst, _∙_}
-use mathlib.Core.Logic.{inl, inr}
-use mathlib.Core.Bool.{Bool, true, false, _&&_}
+use mathlib.Core.Path.{_≡_, refl, sym, ap, _∙_}
 use mathlib.Core.List.{List, [], _∷_}
 use Prim.Native.Nat.{ℕ, zero, suc, _+_, _*_, _/_, _%_, _^_, _-_, _<_}
 use native.Mathlib.Nat.{add-zero, add-suc, add-comm, suc-mul}
@@ -13,7 +11,7 @@ use Rattle.element.specs.declared.Bit.the-variants.{Zero, One}
 use Rattle.element.specs.Bits.{bit-plus}
 use Rattle.outlet.specs.Bytes.{weight}
 use Rattle.outlet.specs.Sequence.{Register, ones, shifted, from-register, s}
-use Rattle.outlet.proofs.Tested.{all-below, from-all}
+use Rattle.outlet.proofs.Tested.{from-all}
 
 rule-from : (t : Register) (i : ℕ) → from-register t (8 + i) ≡ bit-plus (bit-plus (bit-plus (from-register t (7 + i)) (from-register t (5 + i))) (from-register t (3 + i))) (from-register t i)
 rule-from t zero = refl

@@ -1,11 +1,9 @@
 -- That each layer is lawful where the outlet below is.
 use mathlib.Core.Path.{_≡_, refl, subst, sym, _∙_}
 use mathlib.Core.List.{List}
-use Prim.Native.Nat.{ℕ, _+_, _≤_}
+use Prim.Native.Nat.{ℕ, _≤_}
 use lib.ListN.{length}
 use Rattle.element.specs.declared.Bit.{Bit}
-use Rattle.qc.specs.Shape.{sent}
-use Rattle.ar4ja.specs.Codes.{shape-of}
 use Rattle.outlet.specs.Meaning.{Lawful}
 use Rattle.outlet.specs.Masks.{masked, inverting, randomizing, length-masked}
 use Rattle.outlet.specs.declared.inverting.Inverter.{Inverter}
@@ -22,9 +20,9 @@ module _ {O : Type 0} {bits : O → List Bit} {room : O → ℕ} {kept : O → O
     transitive = λ a b c h k. low .transitive (a .below) (b .below) (c .below) h k;
   }
 
-  pub randomizer-lawful : Lawful {S = Randomizer O} (λ w. masked (randomizing (w .start) (64 + sent (shape-of (w .code)))) (bits (w .below))) (λ w. room (w .below)) (λ w v. (v .start ≡ w .start) × (v .code ≡ w .code) × kept (w .below) (v .below))
+  pub randomizer-lawful : Lawful {S = Randomizer O} (λ w. masked (randomizing (w .start) (w .code)) (bits (w .below))) (λ w. room (w .below)) (λ w v. (v .start ≡ w .start) × (v .code ≡ w .code) × kept (w .below) (v .below))
   randomizer-lawful = record {
-    within = λ w. under (randomizing (w .start) (64 + sent (shape-of (w .code)))) (w .below);
+    within = λ w. under (randomizing (w .start) (w .code)) (w .below);
     reflexive = λ w. (refl, refl, low .reflexive (w .below));
     transitive = λ a b c h k. (k .0 ∙ h .0, k .1 ∙ h .1, low .transitive (a .below) (b .below) (c .below) (h .2) (k .2));
   }

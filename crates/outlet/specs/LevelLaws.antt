@@ -2,10 +2,10 @@
 use mathlib.Core.Path.{_≡_, refl, sym, ap, _∙_}
 use mathlib.Core.Logic.{inl, inr}
 use mathlib.Core.List.{List}
-use Prim.Native.Nat.{ℕ, _≤_, min}
+use Prim.Native.Nat.{ℕ, _≤_}
 use native.Mathlib.Omega.{arith}
-use lib.IntN.{ℤ, pos}
-use lib.ListN.{length, getD, take}
+use lib.IntN.{ℤ}
+use lib.ListN.{length, take}
 use Rattle.std.proofs.shelf.Lists.{length-map, length-take}
 use Rattle.std.proofs.shelf.Tests.{cases-lt}
 use Rattle.std.specs.Of.Vec.{vec-items, vec-len}

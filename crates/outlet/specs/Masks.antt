@@ -2,12 +2,15 @@
 use mathlib.Core.Path.{_≡_, refl, ap}
 use mathlib.Core.Bool.{cond}
 use mathlib.Core.List.{List, [], _∷_}
-use Prim.Native.Nat.{ℕ, suc, _-_, _%_}
+use Prim.Native.Nat.{ℕ, suc, _+_, _-_, _%_}
 use lib.Dec.{ltb}
 use lib.ListN.{length}
 use Rattle.element.specs.declared.Bit.{Bit}
 use Rattle.element.specs.declared.Bit.the-variants.{Zero, One}
 use Rattle.element.specs.Bits.{bit-plus}
+use Rattle.qc.specs.Shape.{sent}
+use Rattle.ar4ja.specs.declared.codes.Code.{Code}
+use Rattle.ar4ja.specs.Codes.{shape-of}
 use Rattle.outlet.specs.Sequence.{s}
 
 -- the list with m(k) added to bit k
@@ -23,9 +26,13 @@ inverting k = One
 abbrev pub in-frame : ℕ → Bit
 in-frame q = cond (ltb q 64) Zero (s (q - 64))
 
--- a randomizer adds nothing before its start place; frames of F bits follow from there
-abbrev pub randomizing : ℕ → ℕ → ℕ → Bit
-randomizing start F k = cond (ltb k start) Zero (in-frame ((k - start) % F))
+-- how many bits a frame of a code has: the attached sync marker, then the block
+abbrev pub frame-bits : Code → ℕ
+frame-bits code = 64 + sent (shape-of code)
+
+-- a randomizer adds nothing before its start place; frames of the code follow one another from there
+abbrev pub randomizing : ℕ → Code → ℕ → Bit
+randomizing start code k = cond (ltb k start) Zero (in-frame ((k - start) % frame-bits code))
 
 pub length-masked : (m : ℕ → Bit) (bs : List Bit) → length (masked m bs) ≡ length bs
 length-masked m [] = refl

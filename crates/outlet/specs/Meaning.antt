@@ -1,6 +1,6 @@
 -- What an outlet's calls answer, and what they leave. An outlet holds a list of bits and has room for so
 -- many; taking is told for a list of bits, of which all are put at the end or none is.
-use mathlib.Core.Bool.{Bool, cond}
+use mathlib.Core.Bool.{cond}
 use mathlib.Core.List.{List, _++_}
 use Prim.Native.Nat.{ℕ, _+_, _≤_}
 use lib.Dec.{leb, ltb}

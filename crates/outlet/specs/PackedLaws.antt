@@ -1,11 +1,10 @@
 -- That the packed outlet is lawful.
-use mathlib.Core.Path.{_≡_, refl, _∙_}
-use mathlib.Core.Logic.{_⊎_, inl, inr}
+use mathlib.Core.Path.{refl, _∙_}
+use mathlib.Core.Logic.{inl, inr}
 use mathlib.Core.List.{List}
-use Prim.Native.Nat.{ℕ, _+_, _*_, _≤_}
+use Prim.Native.Nat.{ℕ}
 use native.Mathlib.Omega.{arith}
 use Rattle.std.proofs.shelf.Counted.{length-map-counting}
-use Rattle.std.proofs.shelf.Tests.{cases-lt}
 use Rattle.std.specs.Of.Vec.{vec-items, vec-len}
 use Rattle.outlet.specs.Meaning.{Lawful}
 use Rattle.outlet.specs.Packing.{place-bit, packed-bits, packed-room, Packs}

@@ -1,8 +1,8 @@
 -- The randomizing sequence s: eight ones, then s(i + 8) = s(i + 7) + s(i + 5) + s(i + 3) + s(i), which is
 -- the recurrence of the polynomial x^8 + x^7 + x^5 + x^3 + 1.
-use Prim.Native.Nat.{ℕ, zero, suc, _+_, _*_}
+use Prim.Native.Nat.{ℕ, zero, suc, _+_}
 use Rattle.element.specs.declared.Bit.{Bit}
-use Rattle.element.specs.declared.Bit.the-variants.{Zero, One}
+use Rattle.element.specs.declared.Bit.the-variants.{One}
 use Rattle.element.specs.Bits.{bit-plus}
 use Rattle.outlet.specs.Bytes.{pack}
 

@@ -1,5 +1,4 @@
 // Why an outlet turns a call down.
-ghost use mathlib.Core.Path.{_≡_};
 ghost use Rattle.outlet.specs.Refusals.{take-fault, place-fault};
 use refusal::Refusal;
 

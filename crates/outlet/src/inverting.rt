@@ -1,7 +1,5 @@
 // The inverter, a layer that shows the complements of the bits below.
 ghost use mathlib.Core.Path.{_≡_};
-ghost use mathlib.Core.List.{List};
-ghost use Prim.Native.Nat.{ℕ};
 ghost use Rattle.outlet.specs.Masks.{masked, inverting};
 ghost use Rattle.outlet.specs.LayerLaws.{inverter-lawful};
 use crate::faults::PlaceFault;

@@ -1,10 +1,7 @@
 // The randomizer, a layer that adds the randomizing sequence to each frame behind its attached sync marker.
 ghost use mathlib.Core.Path.{_≡_};
-ghost use mathlib.Core.List.{List};
-ghost use Prim.Native.Nat.{ℕ, _+_, _<_};
+ghost use Prim.Native.Nat.{_<_};
 ghost use lib.ListN.{length};
-ghost use Rattle.qc.specs.Shape.{sent};
-ghost use Rattle.ar4ja.specs.Codes.{shape-of};
 ghost use Rattle.outlet.specs.Masks.{masked, randomizing};
 ghost use Rattle.outlet.specs.LayerLaws.{randomizer-lawful};
 use crate::faults::PlaceFault;
@@ -34,7 +31,7 @@ impl<O: Outlet> Randomizer<O> {
         ensures below { λ r. ⌜ r .below ≡ below ⌝ }
         ensures start { λ r. ⌜ r .start ≡ length (O·Outlet .bits below) ⌝ }
         ensures code { λ r. ⌜ r .code ≡ code ⌝ }
-        ensures bits { λ r. ⌜ masked (randomizing (r .start) (64 + sent (shape-of (r .code)))) (O·Outlet .bits (r .below)) ≡ O·Outlet .bits below ⌝ }
+        ensures bits { λ r. ⌜ masked (randomizing (r .start) (r .code)) (O·Outlet .bits (r .below)) ≡ O·Outlet .bits below ⌝ }
     {
         let start = below.held();
         Randomizer { below, start, code }
@@ -54,7 +51,7 @@ impl<O: Outlet> Randomizer<O> {
 
     // What is added to the bit at a place.
     fn mask(&self, place: usize) -> Bit
-        ensures { λ r. ⌜ r ≡ randomizing (now (self .entry) .start) (64 + sent (shape-of (now (self .entry) .code))) place ⌝ }
+        ensures { λ r. ⌜ r ≡ randomizing (now (self .entry) .start) (now (self .entry) .code) place ⌝ }
     {
         if place < self.start {
             return Bit::Zero;
@@ -69,7 +66,7 @@ impl<O: Outlet> Randomizer<O> {
 }
 
 pub impl<O: Outlet> Outlet for Randomizer<O> as RandomizerOutlet {
-    ghost bits = { λ w. masked (randomizing (w .start) (64 + sent (shape-of (w .code)))) (O·Outlet .bits (w .below)) };
+    ghost bits = { λ w. masked (randomizing (w .start) (w .code)) (O·Outlet .bits (w .below)) };
 
     ghost room = { λ w. O·Outlet .room (w .below) };
 

@@ -1,7 +1,7 @@
 // The randomizing sequence.
 ghost use mathlib.Core.Path.{_≡_};
-ghost use mathlib.Core.List.{List, [], _∷_, map};
-ghost use Prim.Native.Nat.{ℕ, _+_, _*_, _<_};
+ghost use mathlib.Core.List.{[], _∷_, map};
+ghost use Prim.Native.Nat.{ℕ, _+_, _<_};
 ghost use Rattle.element.specs.Bits.{bit-plus};
 ghost use Rattle.element.specs.declared.Bit.the-variants.{One};
 ghost use Rattle.outlet.specs.Sequence.{s, byte-from};
