@@ -1,8 +1,7 @@
--- What an outlet has to show of an answer: which way a call went, in each case.
+-- Each way that a call can go: what it answers, and what it leaves.
 use mathlib.Core.Path.{_≡_, sym}
-use mathlib.Core.List.{List, [], _∷_, _++_}
+use mathlib.Core.List.{List, _++_}
 use Prim.Native.Nat.{ℕ, _+_, _<_, _≤_}
-use native.Mathlib.Omega.{arith}
 use lib.Dec.{leb, ltb}
 use lib.ListN.{length, getD}
 use Rattle.std.proofs.shelf.Tests.{cond-true, cond-false, le-leb, lt-leb, lt-ltb, le-ltb}
@@ -14,18 +13,18 @@ use Rattle.outlet.specs.declared.faults.PlaceFault.the-variants.{NotHeld}
 use Rattle.outlet.specs.Refusals.{take-fault, place-fault}
 use Rattle.outlet.specs.Meaning.{take-answer, taken, bit-answer}
 
-module _ (b : Bit) (old : List Bit) (room : ℕ) where
-  pub full-answer : room ≤ length old → refused (take-fault Full) ≡ take-answer (b ∷ []) old room
-  full-answer h = sym (cond-false (leb (length old + 1) room) (done tt) (refused (take-fault Full)) (lt-leb (length old + 1) room (omega arith)))
+module _ (more old : List Bit) (room : ℕ) where
+  pub full-answer : room < length old + length more → refused (take-fault Full) ≡ take-answer more old room
+  full-answer h = sym (cond-false (leb (length old + length more) room) (done tt) (refused (take-fault Full)) (lt-leb (length old + length more) room h))
 
-  pub full-after : room ≤ length old → old ≡ taken (b ∷ []) old room
-  full-after h = sym (cond-false (leb (length old + 1) room) (old ++ (b ∷ [])) old (lt-leb (length old + 1) room (omega arith)))
+  pub full-after : room < length old + length more → old ≡ taken more old room
+  full-after h = sym (cond-false (leb (length old + length more) room) (old ++ more) old (lt-leb (length old + length more) room h))
 
-  pub done-answer : length old < room → done tt ≡ take-answer (b ∷ []) old room
-  done-answer h = sym (cond-true (leb (length old + 1) room) (done tt) (refused (take-fault Full)) (le-leb (length old + 1) room (omega arith)))
+  pub done-answer : length old + length more ≤ room → done tt ≡ take-answer more old room
+  done-answer h = sym (cond-true (leb (length old + length more) room) (done tt) (refused (take-fault Full)) (le-leb (length old + length more) room h))
 
-  pub done-after : length old < room → old ++ (b ∷ []) ≡ taken (b ∷ []) old room
-  done-after h = sym (cond-true (leb (length old + 1) room) (old ++ (b ∷ [])) old (le-leb (length old + 1) room (omega arith)))
+  pub done-after : length old + length more ≤ room → old ++ more ≡ taken more old room
+  done-after h = sym (cond-true (leb (length old + length more) room) (old ++ more) old (le-leb (length old + length more) room h))
 
 module _ (held : List Bit) (place : ℕ) where
   pub read-answer : place < length held → done (getD held place Zero) ≡ bit-answer held place

@@ -1,4 +1,4 @@
--- What holds of each byte and each place in it, by tests that are computed.
+-- What holds of each byte and each place in it, by computed tests.
 use mathlib.Core.Path.{_≡_, refl, ap, _∙_}
 use mathlib.Core.Bool.{Bool, true, false, cond}
 use Prim.Native.Nat.{ℕ, _+_, _-_, _*_, _/_, _%_, _^_, _<_}

@@ -1,6 +1,5 @@
 // The randomizer, a layer that adds the randomizing sequence to each frame behind its attached sync marker.
 ghost use mathlib.Core.Path.{_≡_};
-ghost use Prim.Native.Nat.{_<_};
 ghost use lib.ListN.{length};
 ghost use Rattle.outlet.specs.Masks.{masked, randomizing};
 ghost use Rattle.outlet.specs.LayerLaws.{randomizer-lawful};

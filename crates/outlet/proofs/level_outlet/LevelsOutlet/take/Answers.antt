@@ -1,5 +1,5 @@
 use mathlib.Core.Path.{_≡_, refl, ap, _∙_}
-use mathlib.Core.List.{List}
+use mathlib.Core.List.{List, [], _∷_}
 use Prim.Native.Nat.{_≤_, _<_}
 use native.Mathlib.Omega.{arith}
 use lib.IntN.{ℤ}
@@ -20,8 +20,8 @@ returns-then-self-min c =
     let fits : o .held ≤ length xs = omega (arith, o .bytes .ok .0) in
     let many = level-count xs (o .held) fits in
     record {
-      answer = full-answer (c .args .b) (level-bits xs (o .held)) (level-room (vec-len (o .bytes))) (omega arith);
-      after = full-after (c .args .b) (level-bits xs (o .held)) (level-room (vec-len (o .bytes))) (omega arith);
+      answer = full-answer (c .args .b ∷ []) (level-bits xs (o .held)) (level-room (vec-len (o .bytes))) (omega arith);
+      after = full-after (c .args .b ∷ []) (level-bits xs (o .held)) (level-room (vec-len (o .bytes))) (omega arith);
       capacity = refl;
       rest = unleveled xs (o .held);
     }
@@ -35,8 +35,8 @@ returns c =
     let many = level-count xs (o .held) (omega arith) in
     let stored : toZ w8 (ofZ w8 (c .level-of-x .result)) ≡ level b = ap (λ (z : ℤ). toZ w8 (ofZ w8 z)) (c .level-of-x .ensures) ∙ level-stored b in
     record {
-      answer = done-answer b (level-bits xs (o .held)) (level-room (vec-len (o .bytes))) (omega arith);
-      after = rw stored (put-level-bits xs (o .held) b within) ∙ done-after b (level-bits xs (o .held)) (level-room (vec-len (o .bytes))) (omega arith);
+      answer = done-answer (b ∷ []) (level-bits xs (o .held)) (level-room (vec-len (o .bytes))) (omega arith);
+      after = rw stored (put-level-bits xs (o .held) b within) ∙ done-after (b ∷ []) (level-bits xs (o .held)) (level-room (vec-len (o .bytes))) (omega arith);
       capacity = refl;
       rest = rw stored (put-leveled xs (o .held) b within);
     }

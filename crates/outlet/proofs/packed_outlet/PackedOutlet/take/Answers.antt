@@ -1,5 +1,5 @@
 use mathlib.Core.Path.{refl, _∙_}
-use mathlib.Core.List.{List}
+use mathlib.Core.List.{List, [], _∷_}
 use Prim.Native.Nat.{ℕ, _/_, _<_}
 use native.Mathlib.Omega.{arith}
 use borrow.Author.Needs.{needs}
@@ -19,8 +19,8 @@ returns-then-self-min c =
     let xs = vec-items (o .bytes) in
     let many = length-map-counting (place-bit xs) 0 (o .held) in
     record {
-      answer = full-answer (c .args .b) (packed-bits xs (o .held)) (packed-room (vec-len (o .bytes))) (omega arith);
-      after = full-after (c .args .b) (packed-bits xs (o .held)) (packed-room (vec-len (o .bytes))) (omega arith);
+      answer = full-answer (c .args .b ∷ []) (packed-bits xs (o .held)) (packed-room (vec-len (o .bytes))) (omega arith);
+      after = full-after (c .args .b ∷ []) (packed-bits xs (o .held)) (packed-room (vec-len (o .bytes))) (omega arith);
       capacity = refl;
       rest = unpacked xs (o .held);
     }
@@ -34,8 +34,8 @@ returns c =
     let read = getD-read-under xs (o .held / 8) _ _ 0 (c .index .ensures) (omega arith) (o .bytes .ok .0) in
     let many = length-map-counting (place-bit xs) 0 (o .held) in
     record {
-      answer = done-answer b (packed-bits xs (o .held)) (packed-room (vec-len (o .bytes))) (omega arith);
-      after = rw (c .with-bit-byte .ensures) (put-bits xs (o .held) b (c .index .result .now) within read (search needs)) ∙ done-after b (packed-bits xs (o .held)) (packed-room (vec-len (o .bytes))) (omega arith);
+      answer = done-answer (b ∷ []) (packed-bits xs (o .held)) (packed-room (vec-len (o .bytes))) (omega arith);
+      after = rw (c .with-bit-byte .ensures) (put-bits xs (o .held) b (c .index .result .now) within read (search needs)) ∙ done-after (b ∷ []) (packed-bits xs (o .held)) (packed-room (vec-len (o .bytes))) (omega arith);
       capacity = refl;
       rest = rw (c .with-bit-byte .ensures) (put-packs xs (o .held) b (c .index .result .now) within read (search needs));
     }
