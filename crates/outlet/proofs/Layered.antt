@@ -49,8 +49,8 @@ masked-none m (x ∷ xs) h =
     (masked-none (λ k. m (suc k)) xs (λ k l. h (suc k) (omega arith)))
 
 -- a layer answers a take as the outlet below does, since it holds as many bits
-pub masked-answer : (m : ℕ → Bit) (old : List Bit) (room : ℕ) (b : Bit) → take-answer (b ∷ []) old room ≡ take-answer (b ∷ []) (masked m old) room
-masked-answer m old room b = ap (λ n. cond (leb (n + 1) room) (done tt) (refused (take-fault Full))) (sym (length-masked m old))
+pub masked-answer : (m : ℕ → Bit) (old : List Bit) (room : ℕ) (b : Bit) (o : Outcome Unit) → o ≡ take-answer (b ∷ []) old room → o ≡ take-answer (b ∷ []) (masked m old) room
+masked-answer m old room b o h = h ∙ ap (λ n. cond (leb (n + 1) room) (done tt) (refused (take-fault Full))) (sym (length-masked m old))
 
 masked-push : (m : ℕ → Bit) (old : List Bit) (b : Bit) → masked m (old ++ (bit-plus b (m (length old)) ∷ [])) ≡ masked m old ++ (b ∷ [])
 masked-push m old b =
@@ -65,9 +65,10 @@ masked-taken m old room b =
     either (leb (length old + 1) room)
     ∙ ap (λ n. cond (leb (n + 1) room) (masked m old ++ (b ∷ [])) (masked m old)) (sym (length-masked m old))
 
--- the bits that a layer shows after a take
-pub masked-step : (m : ℕ → Bit) (old new : List Bit) (room : ℕ) (b x : Bit) → x ≡ bit-plus b (m (length old)) → new ≡ taken (x ∷ []) old room → masked m new ≡ taken (b ∷ []) (masked m old) room
-masked-step m old new room b x e h = ap (masked m) (h ∙ ap (λ (y : Bit). taken (y ∷ []) old room) e) ∙ masked-taken m old room b
+-- the bits that a layer shows after a take at place k, to which it adds y
+pub masked-step : (m : ℕ → Bit) (old new : List Bit) (room : ℕ) (b x y : Bit) (k : ℕ) → x ≡ bit-plus b y → y ≡ m k → k ≡ length old → new ≡ taken (x ∷ []) old room → masked m new ≡ taken (b ∷ []) (masked m old) room
+masked-step m old new room b x y k e f g h =
+    ap (masked m) (h ∙ ap (λ (z : Bit). taken (z ∷ []) old room) (e ∙ ap (bit-plus b) (f ∙ ap m g))) ∙ masked-taken m old room b
 
 -- an outcome with a function of its value
 abbrev through : (Bit → Bit) → Outcome Bit → Outcome Bit
@@ -85,9 +86,10 @@ masked-bit m held place = elim (cases-bool (ltb place (length held))) [
       ∙ sym (cond-false _ (done (getD (masked m held) place Zero)) (refused (place-fault NotHeld)) (ap (ltb place) (length-masked m held) ∙ e))
 ]
 
--- the bit that a layer shows at a place
-pub masked-read : (m : ℕ → Bit) (held : List Bit) (place : ℕ) (b x : Bit) → x ≡ bit-plus b (m place) → done b ≡ bit-answer held place → done x ≡ bit-answer (masked m held) place
-masked-read m held place b x e h = ap done e ∙ ap (through (λ y. bit-plus y (m place))) h ∙ masked-bit m held place
+-- the bit that a layer shows at a place, to which it adds y
+pub masked-read : (m : ℕ → Bit) (held : List Bit) (place : ℕ) (b x y : Bit) → x ≡ bit-plus b y → y ≡ m place → done b ≡ bit-answer held place → done x ≡ bit-answer (masked m held) place
+masked-read m held place b x y e f h =
+    ap done (e ∙ ap (bit-plus b) f) ∙ ap (through (λ z. bit-plus z (m place))) h ∙ masked-bit m held place
 
 pub masked-refusal : (m : ℕ → Bit) (held : List Bit) (place : ℕ) (n : Numbered) → refused n ≡ bit-answer held place → refused n ≡ bit-answer (masked m held) place
 masked-refusal m held place n h = ap (through (λ y. bit-plus y (m place))) h ∙ masked-bit m held place

@@ -41,4 +41,5 @@ levels-lawful = record {
   within = λ o. omega (arith, level-count (vec-items (o .bytes)) (o .held) (omega (arith, o .fits, o .bytes .ok .0)), o .fits);
   reflexive = λ o. unleveled _ _;
   transitive = λ a b c h k. onward _ _ _ _ _ _ h k;
+  steady = λ a b h. ap level-room (b .bytes .ok .0 ∙ h .long ∙ sym (a .bytes .ok .0));
 }

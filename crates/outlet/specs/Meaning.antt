@@ -1,5 +1,6 @@
 -- What an outlet's calls answer, and what they leave. An outlet holds a list of bits and has room for so
 -- many; taking is told for a list of bits, of which all are put at the end or none is.
+use mathlib.Core.Path.{_≡_}
 use mathlib.Core.Bool.{cond}
 use mathlib.Core.List.{List, _++_}
 use Prim.Native.Nat.{ℕ, _+_, _≤_}
@@ -24,9 +25,10 @@ taken more old room = cond (leb (length old + length more) room) (old ++ more) o
 abbrev pub bit-answer : List Bit → ℕ → Outcome Bit
 bit-answer held place = cond (ltb place (length held)) (done (getD held place Zero)) (refused (place-fault NotHeld))
 
--- what every outlet obeys: the count never passes the capacity, and what no take changes is so over any
--- number of takes
+-- what every outlet obeys: the count never passes the capacity; what no take changes is so over any number
+-- of takes, and the capacity is part of it
 pub record Lawful {S : Type 0} (bits : S → List Bit) (room : S → ℕ) (kept : S → S → Type 0) : Type 0 where
   pub within : (o : S) → length (bits o) ≤ room o
   pub reflexive : (o : S) → kept o o
   pub transitive : (a b c : S) → kept a b → kept b c → kept a c
+  pub steady : (a b : S) → kept a b → room b ≡ room a

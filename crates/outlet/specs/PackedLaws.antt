@@ -1,5 +1,5 @@
 -- That the packed outlet is lawful.
-use mathlib.Core.Path.{refl, _∙_}
+use mathlib.Core.Path.{refl, sym, ap, _∙_}
 use mathlib.Core.Logic.{inl, inr}
 use mathlib.Core.List.{List}
 use Prim.Native.Nat.{ℕ}
@@ -29,4 +29,5 @@ packed-lawful = record {
   within = λ o. omega (arith, length-map-counting (place-bit (vec-items (o .bytes))) 0 (o .held), o .fits);
   reflexive = λ o. unpacked _ _;
   transitive = λ a b c h k. onward _ _ _ _ _ _ h k;
+  steady = λ a b h. ap packed-room (b .bytes .ok .0 ∙ h .long ∙ sym (a .bytes .ok .0));
 }

@@ -12,4 +12,5 @@ module _ {O : Type 0} {bits : O → List Bit} {room : O → ℕ} {kept : O → O
     within = λ r. low .within (now r);
     reflexive = λ r. (low .reflexive (now r), refl);
     transitive = λ a b c h k. (low .transitive (now a) (now b) (now c) (h .0) (k .0), k .1 ∙ h .1);
+    steady = λ a b h. low .steady (now a) (now b) (h .0);
   }

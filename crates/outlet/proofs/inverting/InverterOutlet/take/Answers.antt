@@ -1,4 +1,6 @@
-use mathlib.Core.Path.{_∙_}
+use mathlib.Core.Path.{refl}
+use lib.ListN.{length}
+use Rattle.element.specs.declared.Bit.the-variants.{One}
 use Rattle.outlet.specs.Masks.{inverting}
 use Rattle.outlet.proofs.Layered.{masked-answer, masked-step}
 use Rattle.outlet.proofs.inverting.InverterOutlet.take.Needs as need
@@ -9,8 +11,8 @@ returns g c =
     let old = g .O·Outlet .bits (w .below) in
     let room = g .O·Outlet .room (w .below) in
     record {
-      answer = c .take .ensures .answer ∙ masked-answer inverting old room (c .args .b);
-      after = masked-step inverting old _ room (c .args .b) _ (c .plus .ensures) (c .take .ensures .after);
+      answer = masked-answer inverting old room (c .args .b) _ (c .take .ensures .answer);
+      after = masked-step inverting old _ room (c .args .b) _ One (length old) (c .plus .ensures) refl refl (c .take .ensures .after);
       capacity = c .take .ensures .capacity;
       rest = c .take .ensures .rest;
     }
