@@ -1,0 +1,11 @@
+pub mod Refusals
+pub mod Meaning
+pub mod ReferenceLaws
+pub mod Bytes
+pub mod Sequence
+pub mod Masks
+pub mod LayerLaws
+pub mod Packing
+pub mod PackedLaws
+pub mod Leveling
+pub mod LevelLaws
