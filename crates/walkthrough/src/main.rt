@@ -4,6 +4,13 @@ use ar4ja::CodeQuasiCyclic;
 use element::Bit;
 use element::BitElement;
 use element::BitPartialEq;
+use outlet::Inverter;
+use outlet::InverterOutlet;
+use outlet::Outlet;
+use outlet::Packed;
+use outlet::PackedOutlet;
+use outlet::Randomizer;
+use outlet::RandomizerOutlet;
 use qc::CheckCoder;
 use qc::CheckCoderCoder;
 use qc::Coder;
@@ -110,9 +117,27 @@ fn code_both_ways(rt: &LibcRuntime) -> Result<(), AnyError> {
     tell(rt, code, &mut by_rows)
 }
 
+// Puts 104 zeros through a pile of two layers, the place of a marker and then 40 bits, and shows the bytes.
+fn show_pile(rt: &LibcRuntime) -> Result<(), AnyError> {
+    let bytes = vec![in rt.alloc(); 0u8; 13]?;
+    let mut pile = Randomizer::over(Inverter::over(Packed::empty(bytes)), Code::Half1024);
+    for _ in 0..104 {
+        let _ = pile.take(Bit::Zero);
+    }
+    println!(rt, "104 zeros through a randomizer over an inverter over a packed outlet, {} of {} places held:", pile.held(), pile.capacity())?;
+    print!(rt, "  ")?;
+    for byte in pile.into_below().into_below().into_bytes().iter() {
+        print!(rt, "{byte:02X}")?;
+    }
+    println!(rt, "")?;
+    println!(rt, "  the complements of 64 zeros and of the sequence that begins FF480EC09A.")?;
+    Ok(())
+}
+
 fn run(rt: &LibcRuntime) -> Result<(), AnyError> {
     check_printed_codeblock(rt)?;
-    code_both_ways(rt)
+    code_both_ways(rt)?;
+    show_pile(rt)
 }
 
 fn main(rt: LibcRuntime) -> Result<(), AnyError> {
