@@ -20,8 +20,11 @@ use std::error::AnyError;
 use std::time::Instant;
 
 const CODES: [Code; 3] = [Code::Half1024, Code::TwoThirds1024, Code::FourFifths1024];
+
 const CALLS: u64 = 2000;
+
 const CODINGS: u64 = 100;
+
 const ROUNDS: u64 = 50;
 
 // The shortest time of a call, in nanoseconds, over some rounds of many calls.
@@ -44,7 +47,11 @@ fn best_check<E: Element + Clone>(rt: &LibcRuntime, code: Code) -> Result<u64, A
     Ok(best)
 }
 
-fn best_coding<K: Coder, E: Element + Clone>(rt: &LibcRuntime, coder: &K, code: Code) -> Result<u64, AnyError> {
+fn best_coding<K: Coder, E: Element + Clone>(
+    rt: &LibcRuntime,
+    coder: &K,
+    code: Code,
+) -> Result<u64, AnyError> {
     let mut block = vec![in rt.alloc(); E::zero(); code.whole_len()]?;
     let mut best = u64::MAX;
     for _ in 0..ROUNDS {
@@ -61,9 +68,21 @@ fn best_coding<K: Coder, E: Element + Clone>(rt: &LibcRuntime, coder: &K, code: 
 fn time_kind<E: Element + Clone>(rt: &LibcRuntime, kind: &str) -> Result<(), AnyError> {
     for code in CODES {
         let n = code.number();
-        println!(rt, "code {n}, {kind}: check {} ns", best_check::<E>(rt, code)?)?;
-        println!(rt, "code {n}, {kind}: table coder {} ns", best_coding::<TableCoderCoder, E>(rt, &TableCoder, code)?)?;
-        println!(rt, "code {n}, {kind}: check coder {} ns", best_coding::<CheckCoderCoder, E>(rt, &CheckCoder, code)?)?;
+        println!(
+            rt,
+            "code {n}, {kind}: check {} ns",
+            best_check::<E>(rt, code)?
+        )?;
+        println!(
+            rt,
+            "code {n}, {kind}: table coder {} ns",
+            best_coding::<TableCoderCoder, E>(rt, &TableCoder, code)?
+        )?;
+        println!(
+            rt,
+            "code {n}, {kind}: check coder {} ns",
+            best_coding::<CheckCoderCoder, E>(rt, &CheckCoder, code)?
+        )?;
     }
     Ok(())
 }

@@ -32,7 +32,12 @@ fn push_hex(text: &mut String, word: u32) -> Result<(), AllocError> {
 }
 
 // The parity of the message with only bit `set` set, as hex digits.
-fn parity_of<K: Coder>(heap: Global, coder: &K, code: Code, set: usize) -> Result<String, AllocError> {
+fn parity_of<K: Coder>(
+    heap: Global,
+    coder: &K,
+    code: Code,
+    set: usize,
+) -> Result<String, AllocError> {
     let mut block = vec![in heap; Bit::Zero; code.whole_len()]?;
     if set < block.len() {
         block[set] = Bit::One;
@@ -40,7 +45,11 @@ fn parity_of<K: Coder>(heap: Global, coder: &K, code: Code, set: usize) -> Resul
     let _ = coder.encode(code, &mut block);
     let mut text = String::new(heap);
     let mut word: u32 = 0;
-    for (i, bit) in block.iter().skip(1024).take(2 * code.group_len()).enumerate() {
+    for (i, bit) in block
+        .iter()
+        .skip(1024)
+        .take(2 * code.group_len())
+        .enumerate() {
         word = (word & 0x7fff_ffff) << 1;
         if *bit == Bit::One {
             word |= 1;
@@ -57,7 +66,11 @@ fn tell_parity(rt: &LibcRuntime, code: Code, set: usize, begins: &str) -> Result
     let by_rows = parity_of(rt.alloc(), &CheckCoder, code, set)?;
     let holds = by_table.starts_with(begins) && by_rows.starts_with(begins);
     let verdict = if holds { "agrees" } else { "DIFFERS" };
-    println!(rt, "Code {}, only message bit {set} set: the parity begins {begins}: {verdict}.", code.number())?;
+    println!(
+        rt,
+        "Code {}, only message bit {set} set: the parity begins {begins}: {verdict}.",
+        code.number()
+    )?;
     Ok(())
 }
 
@@ -65,7 +78,10 @@ fn tell_parity(rt: &LibcRuntime, code: Code, set: usize, begins: &str) -> Result
 fn first_row(heap: Global, code: Code, k: usize) -> Result<String, AllocError> {
     let width = code.segment() / 32;
     let mut text = String::new(heap);
-    for word in code.generator().iter().skip(k.saturating_mul(width)).take(width) {
+    for word in code.generator()
+        .iter()
+        .skip(k.saturating_mul(width))
+        .take(width) {
         push_hex(&mut text, *word)?;
     }
     Ok(text)
@@ -84,7 +100,10 @@ fn tell_table(rt: &LibcRuntime, name: &str, code: Code, lines: &[&str]) -> Resul
         let row = (k / 8).saturating_mul(m).saturating_add(1);
         let column = (k % 8).saturating_mul(m).saturating_add(1025);
         let last = column.saturating_add(m).saturating_sub(1);
-        println!(rt, "Table {name}, row {row}, columns {column}-{last}: printed {line}, implied {held}.")?;
+        println!(
+            rt,
+            "Table {name}, row {row}, columns {column}-{last}: printed {line}, implied {held}."
+        )?;
     }
     println!(rt, "Table {name}: {agree} of {} lines agree.", lines.len())?;
     Ok(())

@@ -1,5 +1,5 @@
 -- What a check answers on a run that holds a whole block.
-use mathlib.Core.Path.{_≡_, refl, sym, ap, _∙_}
+use mathlib.Core.Path.{_≡_, refl, sym, ap, subst, _∙_}
 use mathlib.Core.Bool.{Bool, cond}
 use mathlib.Core.Logic.{_↔_}
 use mathlib.Core.List.{List}
@@ -55,3 +55,7 @@ fewer-fit size n k limit le fits = omega (arith, mul-le-mul-right size le, fits)
 
 pub joined : {A B C : Type 0} → A ↔ B → B ↔ C → A ↔ C
 joined f g = ((λ a. g .0 (f .0 a)), (λ c. f .1 (g .1 c)))
+
+-- said of a verdict that is equal
+pub told : {B : Type 0} {v w : Verdict} → v ≡ w → (_≡_ {A = Result Verdict RunFault} (Ok w) (Ok Passes) ↔ B) → _≡_ {A = Result Verdict RunFault} (Ok v) (Ok Passes) ↔ B
+told {B = B} e f = subst (λ (x : Verdict). _≡_ {A = Result Verdict RunFault} (Ok x) (Ok Passes) ↔ B) (sym e) f

@@ -88,7 +88,7 @@ module _ (c : Shape) (ok : Sound c) where
   pub asked-apart : AllApart (c .m) (c .K * M c) (terms (asked c))
   asked-apart =
       apart-append (c .m) (c .K * M c) (terms (c .u2)) (operator-terms (c .P) (z c))
-        (below-apart c (c .K) _ _ (omega arith) (terms (c .u2)) (ok .u2-sound)) (punctured-apart (c .P))
+      (below-apart c (c .K) _ _ (omega arith) (terms (c .u2)) (ok .u2-sound)) (punctured-apart (c .P))
 
   pub closing-apart : AllApart (c .m) (c .K * M c) (terms (closing c))
   closing-apart = punctured-apart (Identity ⊞ c .Π1)

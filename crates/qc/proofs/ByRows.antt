@@ -31,12 +31,12 @@ use Rattle.qc.proofs.CodingLaws.{is-coded}
 use Rattle.qc.proofs.SegmentWrites.{SegmentsWritten}
 
 module _ {E : Type 0} {none : E} {plus : E → E → E} {same : E → E → Bool} (laws : Laws none plus same) (c : Shape) (ok : Sound c) (t : Tables) (good : Tabulated c t)
-         (r0 r1 r2 r3 r5 : List E) (fits : whole c ≤ length r0)
-         (l1 : length r1 ≡ length r0) (l2 : length r2 ≡ length r1) (l3 : length r3 ≡ length r2) (l5 : length r5 ≡ length (completed none plus c r3))
-         (w1 : SegmentsWritten none (c .m) (of-message none plus c (c .u3) (segments none (c .m) r0)) (4 * (c .K + 2)) r0 r1 4)
-         (w2 : SegmentsWritten none (c .m) (segment-sum none plus (c .m) (permutations c) (terms (asked c)) (segments none (c .m) r1)) (4 * c .K) r1 r2 4)
-         (w3 : SegmentsWritten none (c .m) (λ n s. sum none plus 4 (λ l. act none plus (c .m) (first-row (c .m) (t .inverse) (4 * l + n)) (segments none (c .m) r2 (4 * c .K + l)) s)) (4 * (c .K + 1)) r2 r3 4)
-         (w5 : SegmentsWritten none (c .m) (segment-sum none plus (c .m) (permutations c) (terms (closing c)) (segments none (c .m) (completed none plus c r3))) (4 * c .K) (completed none plus c r3) r5 4) where
+    (r0 r1 r2 r3 r5 : List E) (fits : whole c ≤ length r0)
+    (l1 : length r1 ≡ length r0) (l2 : length r2 ≡ length r1) (l3 : length r3 ≡ length r2) (l5 : length r5 ≡ length (completed none plus c r3))
+    (w1 : SegmentsWritten none (c .m) (of-message none plus c (c .u3) (segments none (c .m) r0)) (4 * (c .K + 2)) r0 r1 4)
+    (w2 : SegmentsWritten none (c .m) (segment-sum none plus (c .m) (permutations c) (terms (asked c)) (segments none (c .m) r1)) (4 * c .K) r1 r2 4)
+    (w3 : SegmentsWritten none (c .m) (λ n s. sum none plus 4 (λ l. act none plus (c .m) (first-row (c .m) (t .inverse) (4 * l + n)) (segments none (c .m) r2 (4 * c .K + l)) s)) (4 * (c .K + 1)) r2 r3 4)
+    (w5 : SegmentsWritten none (c .m) (segment-sum none plus (c .m) (permutations c) (terms (closing c)) (segments none (c .m) (completed none plus c r3))) (4 * c .K) (completed none plus c r3) r5 4) where
   u : ℕ → ℕ → E
   u = segments none (c .m) r0
 
@@ -58,9 +58,9 @@ module _ {E : Type 0} {none : E} {plus : E → E → E} {same : E → E → Bool
       w2 .made j s hj hs
       ∙ total-append laws _ (terms (c .u2)) (operator-terms (c .P) (z c))
       ∙ ap₂ plus
-          (terms-same laws c (c .K) (length (permutations c)) (terms (c .u2)) (ok .u2-sound) (segments none (c .m) r1) (segments none (c .m) r0) j s hs message1)
-          (operator-group laws c (c .P) (z c) (segments none (c .m) r1) j s
-           ∙ operator-alike laws c (c .P) (group-segments none c r1 (z c)) (of-message none plus c (c .u3) (segments none (c .m) r0)) j s hs (λ n i hn hi. w1 .made n i hn hi))
+      (terms-same laws c (c .K) (length (permutations c)) (terms (c .u2)) (ok .u2-sound) (segments none (c .m) r1) (segments none (c .m) r0) j s hs message1)
+      (operator-group laws c (c .P) (z c) (segments none (c .m) r1) j s
+      ∙ operator-alike laws c (c .P) (group-segments none c r1 (z c)) (of-message none plus c (c .u3) (segments none (c .m) r0)) j s hs (λ n i hn hi. w1 .made n i hn hi))
 
   b-is : (j s : ℕ) → j < 4 → s < c .m → group-segments none c r3 (b c) j s ≡ rows-b none plus c t (segments none (c .m) r0) j s
   b-is j s hj hs =
@@ -71,8 +71,8 @@ module _ {E : Type 0} {none : E} {plus : E → E → E} {same : E → E → Bool
   z-is j s hj hs =
       completed-z laws c ok t r3 fits3 j s hj hs
       ∙ ap₂ plus
-          (terms-same laws c (c .K) (length (permutations c)) (terms (c .u3)) (ok .u3-sound) (segments none (c .m) r3) (segments none (c .m) r0) j s hs message3)
-          (operator-alike laws c (c .Q) (group-segments none c r3 (b c)) (rows-b none plus c t (segments none (c .m) r0)) j s hs (λ n i hn hi. b-is n i hn hi))
+      (terms-same laws c (c .K) (length (permutations c)) (terms (c .u3)) (ok .u3-sound) (segments none (c .m) r3) (segments none (c .m) r0) j s hs message3)
+      (operator-alike laws c (c .Q) (group-segments none c r3 (b c)) (rows-b none plus c t (segments none (c .m) r0)) j s hs (λ n i hn hi. b-is n i hn hi))
 
   a-is : (j s : ℕ) → j < 4 → s < c .m → segments none (c .m) r5 (4 * c .K + j) s ≡ rows-a none plus c t (segments none (c .m) r0) j s
   a-is j s hj hs =
@@ -94,16 +94,16 @@ module _ {E : Type 0} {none : E} {plus : E → E → E} {same : E → E → Bool
   pub made-by-rows : r5 ≡ encoded none plus c t r0
   made-by-rows =
       ext-getD none r5 (encoded none plus c t r0)
-        (l5 ∙ completed-length none plus c r3 fits3 ∙ l3 ∙ l2 ∙ l1 ∙ sym (encoded-length laws c ok t r0 fits))
-        (λ i h. go i (decLt i (whole c)))
+      (l5 ∙ completed-length none plus c r3 fits3 ∙ l3 ∙ l2 ∙ l1 ∙ sym (encoded-length laws c ok t r0 fits))
+      (λ i h. go i (decLt i (whole c)))
     where
       zeros : AllZero none plus c (groups none (M c) r5)
       zeros =
           segments-rows laws c ok r5
-            (zero-alike laws c ok (segments none (c .m) r0) (segments none (c .m) r5)
-              (rows-a none plus c t (segments none (c .m) r0)) (group-segments none c r5 (a c)) (rows-b none plus c t (segments none (c .m) r0)) (group-segments none c r5 (b c)) (rows-z none plus c t (segments none (c .m) r0)) (group-segments none c r5 (z c))
-              (λ n s hn hs. sym (message5 n s hn hs)) (λ j s hj hs. sym (a-is j s hj hs)) (λ j s hj hs. sym (b5 j s hj hs)) (λ j s hj hs. sym (z5 j s hj hs))
-              (rows-zero laws c ok t (good .inverse) (segments none (c .m) r0)))
+          (zero-alike laws c ok (segments none (c .m) r0) (segments none (c .m) r5)
+          (rows-a none plus c t (segments none (c .m) r0)) (group-segments none c r5 (a c)) (rows-b none plus c t (segments none (c .m) r0)) (group-segments none c r5 (b c)) (rows-z none plus c t (segments none (c .m) r0)) (group-segments none c r5 (z c))
+          (λ n s hn hs. sym (message5 n s hn hs)) (λ j s hj hs. sym (a-is j s hj hs)) (λ j s hj hs. sym (b5 j s hj hs)) (λ j s hj hs. sym (z5 j s hj hs))
+          (rows-zero laws c ok t (good .inverse) (segments none (c .m) r0)))
 
       message : (i : ℕ) → i < c .K * M c → getD r0 i none ≡ getD r5 i none
       message i h =

@@ -33,20 +33,20 @@ given-as m ws n = record { m = m; words = ws; segments-of = n }
 abbrev pub Produced : {E : Type 0} → E → (E → E → E) → List E → List E → Given → Type 0
 Produced none plus xs ys g =
     Written none (λ p. product-at none plus (g .m) (g .words) (by-generator (g .segments-of)) (segments none (g .m) xs) ((p - g .segments-of * g .m) / g .m) ((p - g .segments-of * g .m) % g .m))
-      (g .segments-of * g .m) xs ys (g .segments-of * g .m + 8 * g .m)
+    (g .segments-of * g .m) xs ys (g .segments-of * g .m + 8 * g .m)
 
 module _ {E : Type 0} {none : E} {plus : E → E → E} {same : E → E → Bool} (laws : Laws none plus same) (c : Shape) (ok : Sound c) (t : Tables) (xs ys : List E) (fits : whole c ≤ length xs) where
   pub made-by-table : length ys ≡ length xs → Produced none plus xs ys (given-as (c .m) (t .generator) (4 * c .K)) → ys ≡ with-parity none plus c t xs
   made-by-table long w =
       parity-by-writing laws c ok t xs fits ys long
-        (record {
-          before = λ p h. w .before p (omega (arith, start));
-          made = λ p h g.
+      (record {
+        before = λ p h. w .before p (omega (arith, start));
+        made = λ p h g.
             w .made p (omega (arith, start, parts laws c ok t)) (omega (arith, start))
             ∙ sum-ext laws (4 * c .K) _ _ (λ r hr. ap (λ n. act none plus (c .m) (first-row (c .m) (t .generator) (8 * r + (p - 4 * c .K * c .m) / c .m)) (segments none (c .m) xs n) ((p - 4 * c .K * c .m) % c .m)) (zero-add r))
             ∙ ap (λ k. parity none plus c t (segments none (c .m) xs) ((p - k) / c .m) ((p - k) % c .m)) start;
-          after = λ p h. w .after p (omega (arith, start, parts laws c ok t));
-        })
+        after = λ p h. w .after p (omega (arith, start, parts laws c ok t));
+      })
     where
       start : 4 * c .K * c .m ≡ c .K * M c
       start = segment-start laws c ok t (c .K)

@@ -38,7 +38,7 @@ module _ {E : Type 0} {none : E} {plus : E → E → E} {same : E → E → Bool
   pub parity-alike : (u w : ℕ → ℕ → E) → ((r s : ℕ) → r < 4 * c .K → s < c .m → u r s ≡ w r s) → (q s : ℕ) → parity none plus c t u q s ≡ parity none plus c t w q s
   parity-alike u w alike q s =
       sum-ext laws (4 * c .K) (λ r. act none plus (c .m) (first-row (c .m) (t .generator) (8 * r + q)) (u r) s) (λ r. act none plus (c .m) (first-row (c .m) (t .generator) (8 * r + q)) (w r) s)
-        (λ r h. act-same laws (c .m) (first-row (c .m) (t .generator) (8 * r + q)) (u r) (w r) s (λ i hi. alike r i h hi))
+      (λ r h. act-same laws (c .m) (first-row (c .m) (t .generator) (8 * r + q)) (u r) (w r) s (λ i hi. alike r i h hi))
 
   module _ (xs : List E) (fits : whole c ≤ length xs) where
     f : ℕ → E

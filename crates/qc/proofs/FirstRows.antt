@@ -36,8 +36,10 @@ bit-left m k q e hk he = go (decLe (m - k) e)
   where
     whole : m ≡ k + (m - k)
     whole = omega arith
+
     spread : left m k q ≡ (q % 2 ^ (m - k)) * 2 ^ k + q % 2 ^ (k + (m - k)) / 2 ^ (m - k)
     spread = ap (λ n. (q % 2 ^ (m - k)) * 2 ^ k + q % 2 ^ n / 2 ^ (m - k)) whole
+
     go : Dec ((m - k) ≤ e) → bit (left m k q) ((e + k) % m) ≡ bit q e
     go (no low) =
         let small : e + k < m = omega arith in
@@ -88,6 +90,7 @@ module _ {E : Type 0} {none : E} {plus : E → E → E} {same : E → E → Bool
     where
       f : ℕ → E
       f e = times none (bit (left m k q) (e % m)) (x ((s + (1 + e)) % m))
+
       period : (e : ℕ) → f (e + m) ≡ f e
       period e = ap₂ (λ n i. times none (bit (left m k q) n) (x i)) (add-mod-right e m) (ap (λ n. n % m) (omega arith) ∙ add-mod-right (s + (1 + e)) m)
 
@@ -135,7 +138,7 @@ module _ {E : Type 0} {none : E} {plus : E → E → E} {same : E → E → Bool
   pub act-unit : (m : ℕ) (x : ℕ → E) (s : ℕ) → s < m → act none plus m (2 ^ (m - 1)) x s ≡ x s
   act-unit m x s h =
       sum-one laws m (λ e. times none (bit (2 ^ (m - 1)) e) (x ((s + (1 + e)) % m))) (m - 1) (omega arith)
-        (λ e l d. ap (λ b. times none b (x ((s + (1 + e)) % m))) (bit-pow-other (m - 1) e (omega arith)))
+      (λ e l d. ap (λ b. times none b (x ((s + (1 + e)) % m))) (bit-pow-other (m - 1) e (omega arith)))
       ∙ ap₂ (λ b i. times none b (x i)) (bit-pow (m - 1)) (ap (λ n. n % m) back ∙ add-mod-right s m ∙ mod-eq-of-lt h)
     where
       back : s + (1 + (m - 1)) ≡ s + m
@@ -145,5 +148,5 @@ module _ {E : Type 0} {none : E} {plus : E → E → E} {same : E → E → Bool
   pub act-unit-at : (m n : ℕ) (x : ℕ → ℕ → E) (s : ℕ) → s < m → (count : ℕ) → n < count → sum none plus count (λ l. act none plus m (unit m l n) (x l) s) ≡ x n s
   act-unit-at m n x s hs count hn =
       sum-one laws count (λ l. act none plus m (unit m l n) (x l) s) n hn
-        (λ l h d. ap (λ b. act none plus m (cond b (2 ^ (m - 1)) 0) (x l) s) (ne-eqb l n d) ∙ act-none m (x l) s)
+      (λ l h d. ap (λ b. act none plus m (cond b (2 ^ (m - 1)) 0) (x l) s) (ne-eqb l n d) ∙ act-none m (x l) s)
       ∙ ap (λ b. act none plus m (cond b (2 ^ (m - 1)) 0) (x n) s) (eq-eqb n n refl) ∙ act-unit m (x n) s hs

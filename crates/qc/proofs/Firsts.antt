@@ -54,7 +54,7 @@ module _ {E : Type 0} {none : E} {plus : E → E → E} {same : E → E → Bool
       let parts = and-parts (term-sound count known t) (all (term-sound count known) ts) ok in
       let low : t .group < count = ltb-true _ _ (and-parts _ _ (parts .0) .0) in
       ap₂ plus (alike (4 * t .group + (getD (permutations c) (t .permutation) absent .theta + j) % 4) _ (omega arith) (mod-lt _ (omega arith)))
-        (terms-same count known ts (parts .1) x y j s h alike)
+      (terms-same count known ts (parts .1) x y j s h alike)
 
   -- an operator on one group looks at its four segments
   pub operator-alike : (A : Operator) (x y : ℕ → ℕ → E) (j s : ℕ) → s < c .m → ((n i : ℕ) → n < 4 → i < c .m → x n i ≡ y n i)
@@ -90,5 +90,5 @@ module _ {E : Type 0} {none : E} {plus : E → E → E} {same : E → E → Bool
   terms-act ok [] q u j s = sym (act-none laws (c .m) u s)
   terms-act ok (t ∷ ts) q u j s =
       ap₂ plus (sym (act-left laws (c .m) (getD (getD (permutations c) (t .permutation) absent .phi) j 0) (q _) u s (shift-most c ok (t .permutation) j)))
-        (terms-act ok ts q u j s)
+      (terms-act ok ts q u j s)
       ∙ sym (act-xor laws (c .m) _ _ u s)

@@ -54,7 +54,7 @@ module _ {E : Type 0} {none : E} {plus : E → E → E} {same : E → E → Bool
   unfolding C
   message q good j s hs =
       sym (terms-same laws c (c .K) (length (permutations c)) (terms q) good (coded none plus (c .m) (4 * c .K) (unit (c .m)) u) u j s hs
-             (λ n i hn hi. act-unit-at laws (c .m) n u i hi (4 * c .K) hn))
+      (λ n i hn hi. act-unit-at laws (c .m) n u i hi (4 * c .K) hn))
       ∙ coded-terms (terms q) (unit (c .m)) j s
 
   pub generated : (a b : ℕ → ℕ → ℕ) → Generates c a b

@@ -38,7 +38,7 @@ module _ {E : Type 0} {none : E} {plus : E → E → E} {same : E → E → Bool
       operator-alike laws c A x (spread none plus (c .m) v y) j s hs is
       ∙ terms-sum laws c (operator-terms A 0) 4 (λ l n. act none plus (c .m) (v l n) (y l)) j s
       ∙ sum-ext laws 4 (λ l. under none plus c A (λ n. act none plus (c .m) (v l n) (y l)) j s) (λ l. act none plus (c .m) (firsts c (operator-terms A 0) (v l) j) (y l) s)
-          (λ l h. terms-act laws c ok (operator-terms A 0) (v l) (y l) j s)
+      (λ l h. terms-act laws c ok (operator-terms A 0) (v l) (y l) j s)
 
   folded-spread : (v : ℕ → ℕ → ℕ) (x y : ℕ → ℕ → E)
       → ((n s : ℕ) → n < 4 → s < c .m → x n s ≡ spread none plus (c .m) v y n s)
@@ -47,8 +47,8 @@ module _ {E : Type 0} {none : E} {plus : E → E → E} {same : E → E → Bool
       ap₂ plus (is j s hj hs) (under-spread (c .P) (λ l. firsts c (operator-terms (c .Q) 0) (v l)) (under none plus c (c .Q) x) y (λ n s hn hs. under-spread (c .Q) v x y is n s hs) j s hs)
       ∙ sym (sum-plus laws 4 (λ l. act none plus (c .m) (v l j) (y l) s) (λ l. act none plus (c .m) (firsts c (operator-terms (c .P) 0) (firsts c (operator-terms (c .Q) 0) (v l)) j) (y l) s))
       ∙ sum-ext laws 4 (λ l. plus (act none plus (c .m) (v l j) (y l) s) (act none plus (c .m) (firsts c (operator-terms (c .P) 0) (firsts c (operator-terms (c .Q) 0) (v l)) j) (y l) s))
-          (λ l. act none plus (c .m) (folded-firsts c (v l) j) (y l) s)
-          (λ l h. sym (act-xor laws (c .m) (v l j) (firsts c (operator-terms (c .P) 0) (firsts c (operator-terms (c .Q) 0) (v l)) j) (y l) s))
+      (λ l. act none plus (c .m) (folded-firsts c (v l) j) (y l) s)
+      (λ l h. sym (act-xor laws (c .m) (v l j) (firsts c (operator-terms (c .P) 0) (firsts c (operator-terms (c .Q) 0) (v l)) j) (y l) s))
 
   pub undone : (v : ℕ → ℕ → ℕ) → ((l n : ℕ) → l < 4 → n < 4 → folded-firsts c (v l) n ≡ unit (c .m) l n)
       → (y : ℕ → ℕ → E) (j s : ℕ) → j < 4 → s < c .m → folded none plus c (spread none plus (c .m) v y) j s ≡ y j s
@@ -61,16 +61,17 @@ module _ {E : Type 0} {none : E} {plus : E → E → E} {same : E → E → Bool
       → (b : ℕ → ℕ → E) (n s : ℕ) → n < 4 → s < c .m → spread none plus (c .m) v (folded none plus c b) n s ≡ b n s
   undoes v test b n s hn hs =
       sum-ext laws 4 (λ j. act none plus m (v j n) (folded none plus c b j) s) (λ j. sum none plus 4 (λ l. act none plus m (mul m (v j n) (a l j)) (b l) s)) (λ j h.
-        act-same laws m (v j n) (folded none plus c b j) (λ i. sum none plus 4 (λ l. act none plus m (a l j) (b l) i)) s
-          (λ i hi. folded-spread (unit m) b b (λ n s hn hs. sym (spread-unit b n s hn hs)) j i h hi)
-        ∙ act-of-sum laws m (v j n) 4 (λ l. act none plus m (a l j) (b l)) s
-        ∙ sum-ext laws 4 (λ l. act none plus m (v j n) (act none plus m (a l j) (b l)) s) (λ l. act none plus m (mul m (v j n) (a l j)) (b l) s) (λ l h. sym (act-mul laws m (v j n) (a l j) (b l) s)))
+      act-same laws m (v j n) (folded none plus c b j) (λ i. sum none plus 4 (λ l. act none plus m (a l j) (b l) i)) s
+      (λ i hi. folded-spread (unit m) b b (λ n s hn hs. sym (spread-unit b n s hn hs)) j i h hi)
+      ∙ act-of-sum laws m (v j n) 4 (λ l. act none plus m (a l j) (b l)) s
+      ∙ sum-ext laws 4 (λ l. act none plus m (v j n) (act none plus m (a l j) (b l)) s) (λ l. act none plus m (mul m (v j n) (a l j)) (b l) s) (λ l h. sym (act-mul laws m (v j n) (a l j) (b l) s)))
       ∙ sum-swap laws 4 4 (λ j l. act none plus m (mul m (v j n) (a l j)) (b l) s)
       ∙ sum-ext laws 4 (λ l. sum none plus 4 (λ j. act none plus m (mul m (v j n) (a l j)) (b l) s)) (λ l. act none plus m (unit m l n) (b l) s)
-          (λ l h. sym (act-xsum laws m 4 (λ j. mul m (v j n) (a l j)) (b l) s) ∙ ap (λ q. act none plus m q (b l) s) (test l n h hn))
+      (λ l h. sym (act-xsum laws m 4 (λ j. mul m (v j n) (a l j)) (b l) s) ∙ ap (λ q. act none plus m q (b l) s) (test l n h hn))
       ∙ spread-unit b n s hn hs
     where
       m : ℕ
       m = c .m
+
       a : ℕ → ℕ → ℕ
       a l j = folded-firsts c (unit (c .m) l) j

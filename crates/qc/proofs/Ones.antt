@@ -23,10 +23,13 @@ bit-number ws start (suc n) e h = go (decLt e 32) (λ d l. bit-number ws start n
   where
     word : ℕ
     word = getD ws (start + n) 0
+
     rest : ℕ
     rest = number ws start n
+
     fits : word % 2 ^ 32 < 2 ^ 32
     fits = mod-lt word (pow-pos 32)
+
     go : Dec (e < 32) → ((d : ℕ) → d < 32 * n → bit rest d ≡ bit (getD ws (start + (32 * n - 1 - d) / 32) 0) (d % 32))
         → bit (rest * 2 ^ 32 + word % 2 ^ 32) e ≡ bit (getD ws (start + (32 * suc n - 1 - e) / 32) 0) (e % 32)
     go (yes l) less =

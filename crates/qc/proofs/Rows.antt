@@ -53,7 +53,7 @@ sum-same none plus m from len table (t ∷ ts) ok away xs ys alike j s hj hs =
     let i : ℕ = (s + getD (p .phi) j 0) % m in
     let low : i < m = mod-lt _ (omega arith) in
     ap₂ plus (alike ((4 * t .group + q) * m + i) (outside from m (t .group) q i (omega arith) low (away 0 t (omega arith))))
-      (sum-same none plus m from len table ts (λ i d l. ok (suc i) d (omega arith)) (λ i d l. away (suc i) d (omega arith)) xs ys alike j s hj hs)
+    (sum-same none plus m from len table ts (λ i d l. ok (suc i) d (omega arith)) (λ i d l. away (suc i) d (omega arith)) xs ys alike j s hj hs)
   where
     outside : (from m g q i : ℕ) → q < 4 → i < m → ((4 * g + 4) * m ≤ from) ⊎ (from + 4 * m ≤ 4 * g * m) → ((4 * g + q) * m + i < from) ⊎ (from + 4 * m ≤ (4 * g + q) * m + i)
     outside from m g q i hq hi (inl before) =

@@ -32,7 +32,7 @@ pub record Zero {E : Type 0} (none : E) (plus : E → E → E) (c : Shape) (u a 
   pub third : (j s : ℕ) → j < 4 → s < c .m → plus (plus (of-message none plus c (c .u3) u j s) (under none plus c (c .Q) b j s)) (z j s) ≡ none
 
 module _ {E : Type 0} {none : E} {plus : E → E → E} {same : E → E → Bool} (laws : Laws none plus same) (c : Shape) (ok : Sound c) (t : Tables)
-         (inverse : Inverse c (λ l n. first-row (c .m) (t .inverse) (4 * l + n))) (u : ℕ → ℕ → E) where
+    (inverse : Inverse c (λ l n. first-row (c .m) (t .inverse) (4 * l + n))) (u : ℕ → ℕ → E) where
   v : ℕ → ℕ → ℕ
   v l n = first-row (c .m) (t .inverse) (4 * l + n)
 
@@ -41,8 +41,8 @@ module _ {E : Type 0} {none : E} {plus : E → E → E} {same : E → E → Bool
       → (j s : ℕ) → s < c .m → plus (b j s) (under none plus c (c .P) z j s) ≡ plus (under none plus c (c .P) (of-message none plus c (c .u3) u) j s) (folded none plus c b j s)
   apart b z is j s hs =
       ap (plus (b j s))
-        (operator-alike laws c (c .P) z (λ n i. plus (of-message none plus c (c .u3) u n i) (under none plus c (c .Q) b n i)) j s hs is
-         ∙ terms-plus laws c (operator-terms (c .P) 0) (of-message none plus c (c .u3) u) (under none plus c (c .Q) b) j s)
+      (operator-alike laws c (c .P) z (λ n i. plus (of-message none plus c (c .u3) u n i) (under none plus c (c .Q) b n i)) j s hs is
+      ∙ terms-plus laws c (operator-terms (c .P) 0) (of-message none plus c (c .u3) u) (under none plus c (c .Q) b) j s)
       ∙ left-comm laws (b j s) _ _
 
   -- what a, b and z are, where all rows are zero
@@ -55,7 +55,7 @@ module _ {E : Type 0} {none : E} {plus : E → E → E} {same : E → E → Bool
     only-b j s hj hs =
         sym (undoes laws c ok v (inverse .before) b j s hj hs)
         ∙ sum-ext laws 4 (λ l. act none plus (c .m) (v l j) (folded none plus c b l) s) (λ l. act none plus (c .m) (v l j) (wanted none plus c t u l) s)
-            (λ l h. act-same laws (c .m) (v l j) _ _ s (λ i hi. so l i h hi))
+        (λ l h. act-same laws (c .m) (v l j) _ _ s (λ i hi. so l i h hi))
       where
         so : (l i : ℕ) → l < 4 → i < c .m → folded none plus c b l i ≡ wanted none plus c t u l i
         so l i hl hi = sym (move laws _ _ _ (ap (plus (of-message none plus c (c .u2) u l i)) (sym (apart b z z-is l i hi)) ∙ zero .second l i hl hi))

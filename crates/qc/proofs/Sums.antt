@@ -78,8 +78,8 @@ module _ {E : Type 0} {none : E} {plus : E → E → E} {same : E → E → Bool
   sum-round m f period zero = sum-ext m _ _ (λ i h. ap f (omega arith))
   sum-round m f period (suc k) =
       cancel _ _ (f k)
-        (ap₂ plus (sum-ext m (λ i. f (i + suc k)) (λ i. f (suc i + k)) (λ i h. ap f (omega arith))) (ap f (omega arith))
-        ∙ sum-next m (λ i. f (i + k)) ∙ ap (plus (sum none plus m (λ i. f (i + k)))) (ap f (omega arith) ∙ period k))
+      (ap₂ plus (sum-ext m (λ i. f (i + suc k)) (λ i. f (suc i + k)) (λ i h. ap f (omega arith))) (ap f (omega arith))
+      ∙ sum-next m (λ i. f (i + k)) ∙ ap (plus (sum none plus m (λ i. f (i + k)))) (ap f (omega arith) ∙ period k))
       ∙ sum-round m f period k
 
   -- one summand alone

@@ -47,18 +47,21 @@ tables-hold c t e =
       inverse = record {
         after = λ l n hl hn. eqb-true _ _ (each-at 4 (λ n. eqb (folded-firsts c (v l) n) (unit (c .m) l n)) (each-at 4 (λ l. each 4 (λ n. eqb (folded-firsts c (v l) n) (unit (c .m) l n))) (e4 .1) l hl) n hn);
         before = λ l n hl hn.
-          eqb-true _ _ (each-at 4 (λ n. eqb (sum 0 bitXor 4 (λ j. mul (c .m) (v j n) (folded-firsts c (unit (c .m) l) j))) (unit (c .m) l n))
+            eqb-true _ _ (each-at 4 (λ n. eqb (sum 0 bitXor 4 (λ j. mul (c .m) (v j n) (folded-firsts c (unit (c .m) l) j))) (unit (c .m) l n))
             (each-at 4 (λ l. each 4 (λ n. eqb (sum 0 bitXor 4 (λ j. mul (c .m) (v j n) (folded-firsts c (unit (c .m) l) j))) (unit (c .m) l n))) (e5 .1) l hl) n hn);
       };
     }
   where
     a : ℕ → ℕ → ℕ
     a r j = first-row (c .m) (t .generator) (8 * r + j)
+
     b : ℕ → ℕ → ℕ
     b r j = first-row (c .m) (t .generator) (8 * r + (4 + j))
+
     v : ℕ → ℕ → ℕ
     v l n = first-row (c .m) (t .inverse) (4 * l + n)
+
     rows : generator-rows c a b ≡ true → (r j : ℕ) → r < 4 * c .K → j < 4 → (eqb (table-first c a b r j) 0 && eqb (table-second c b r j) 0) ≡ true
     rows g r j hr hj =
         each-at 4 (λ j. eqb (table-first c a b r j) 0 && eqb (table-second c b r j) 0)
-          (each-at (4 * c .K) (λ r. each 4 (λ j. eqb (table-first c a b r j) 0 && eqb (table-second c b r j) 0)) g r hr) j hj
+        (each-at (4 * c .K) (λ r. each 4 (λ j. eqb (table-first c a b r j) 0 && eqb (table-second c b r j) 0)) g r hr) j hj

@@ -1,4 +1,6 @@
 // What a check answers.
+ghost use mathlib.Core.Path.{_≡_};
+ghost use Rattle.qc.specs.Check.{verdict};
 ghost use Rattle.qc.specs.Refusals.{run-fault};
 use refusal::Refusal;
 
@@ -7,6 +9,18 @@ use refusal::Refusal;
 pub enum Verdict {
     Passes,
     Fails(usize),
+}
+
+impl Verdict {
+    // The verdict by the lowest row that is not zero, if there is one.
+    pub fn of(lowest: Option<usize>) -> Verdict
+        ensures { λ r. ⌜ r ≡ verdict lowest ⌝ }
+    {
+        match lowest {
+            Some(row) => Verdict::Fails(row),
+            None => Verdict::Passes,
+        }
+    }
 }
 
 // Why a call on a work buffer was refused.

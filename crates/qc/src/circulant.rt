@@ -99,7 +99,14 @@ fn add_shifted<E: Element>(sums: &mut [E], wide: &[E], places: &[usize])
 
 // Adds to `sums` a circulant applied to `segment`. Its first row stands in the words from `start` on; `wide`
 // and `places` are room to work in.
-fn add_circulant<E: Element>(sums: &mut [E], wide: &mut [E], places: &mut [usize], segment: &[E], words: &[u32], start: usize)
+fn add_circulant<E: Element>(
+    sums: &mut [E],
+    wide: &mut [E],
+    places: &mut [usize],
+    segment: &[E],
+    words: &[u32],
+    start: usize,
+)
     requires lengths { ⌜ length (now sums) ≡ length (now segment) ⌝ ∗ ⌜ length (now wide) ≡ length (now segment) + length (now segment) ⌝ ∗ ⌜ length (now segment) ≤ length (now places) ⌝ }
     requires words { ⌜ start + length (now segment) / 32 ≤ length (now words) ⌝ ∗ ⌜ length (now segment) % 32 ≡ 0 ⌝ ∗ ⌜ length (now segment) ≤ 512 ⌝ }
     ensures { λ _. ⌜ ((s : ℕ) → s < length (now (sums .entry)) → getD (now (sums .exit)) s zero ≡ plus (getD (now (sums .entry)) s zero) (act zero plus (length (now (segment .entry))) (number (now (words .entry)) start (length (now (segment .entry)) / 32)) (λ i. getD (now (segment .entry)) i zero) s)) ⌝ }
@@ -110,7 +117,15 @@ fn add_circulant<E: Element>(sums: &mut [E], wide: &mut [E], places: &mut [usize
 }
 
 // Target q of a product.
-fn sum_circulants<E: Element>(sums: &mut [E], wide: &mut [E], places: &mut [usize], run: &[E], words: &[u32], product: Product, q: usize)
+fn sum_circulants<E: Element>(
+    sums: &mut [E],
+    wide: &mut [E],
+    places: &mut [usize],
+    run: &[E],
+    words: &[u32],
+    product: Product,
+    q: usize,
+)
     requires lengths { ⌜ length (now wide) ≡ length (now sums) + length (now sums) ⌝ ∗ ⌜ length (now sums) ≤ length (now places) ⌝ ∗ ⌜ 0 < length (now sums) ⌝ }
     requires table { ⌜ product .sources * product .targets * (length (now sums) / 32) ≤ length (now words) ⌝ ∗ ⌜ length (now sums) % 32 ≡ 0 ⌝ ∗ ⌜ length (now sums) ≤ 512 ⌝ }
     requires there { ⌜ (product .source + product .sources) * length (now sums) ≤ length (now run) ⌝ }
@@ -127,7 +142,14 @@ fn sum_circulants<E: Element>(sums: &mut [E], wide: &mut [E], places: &mut [usiz
 }
 
 // Writes the targets of a product; its sources lie before them.
-pub(crate) fn write_product<E: Element>(run: &mut [E], sums: &mut [E], wide: &mut [E], places: &mut [usize], words: &[u32], product: Product)
+pub(crate) fn write_product<E: Element>(
+    run: &mut [E],
+    sums: &mut [E],
+    wide: &mut [E],
+    places: &mut [usize],
+    words: &[u32],
+    product: Product,
+)
     requires lengths { ⌜ length (now wide) ≡ length (now sums) + length (now sums) ⌝ ∗ ⌜ length (now sums) ≤ length (now places) ⌝ ∗ ⌜ 0 < length (now sums) ⌝ }
     requires table { ⌜ product .sources * product .targets * (length (now sums) / 32) ≤ length (now words) ⌝ ∗ ⌜ length (now sums) % 32 ≡ 0 ⌝ ∗ ⌜ length (now sums) ≤ 512 ⌝ }
     requires apart { ⌜ product .source + product .sources ≤ product .target ⌝ }

@@ -38,18 +38,35 @@ pub struct TableCoder;
 #[derive(Clone, Copy, PartialEq, Eq, Debug)]
 pub struct CheckCoder;
 
-fn encode_by_table<C: QuasiCyclic, E: Element>(code: C, run: &mut [E], sums: &mut [E], wide: &mut [E], places: &mut [usize])
+fn encode_by_table<C: QuasiCyclic, E: Element>(
+    code: C,
+    run: &mut [E],
+    sums: &mut [E],
+    wide: &mut [E],
+    places: &mut [usize],
+)
     requires there { ⌜ whole (shape code) ≤ length (now run) ⌝ }
     requires room { ⌜ length (now sums) ≡ shape code .m ⌝ ∗ ⌜ length (now wide) ≡ shape code .m + shape code .m ⌝ ∗ ⌜ shape code .m ≤ length (now places) ⌝ }
     ensures { λ _. ⌜ now (run .exit) ≡ encoded zero plus (shape code) (tables code) (now (run .entry)) ⌝ }
 {
     let segments = 4 * code.message_groups();
-    let product = Product { source: 0, sources: segments, target: segments, targets: 8 };
+    let product = Product {
+        source: 0,
+        sources: segments,
+        target: segments,
+        targets: 8,
+    };
     write_product(run, sums, wide, places, code.generator(), product);
     complete(code, run, sums);
 }
 
-fn encode_by_rows<C: QuasiCyclic, E: Element>(code: C, run: &mut [E], sums: &mut [E], wide: &mut [E], places: &mut [usize])
+fn encode_by_rows<C: QuasiCyclic, E: Element>(
+    code: C,
+    run: &mut [E],
+    sums: &mut [E],
+    wide: &mut [E],
+    places: &mut [usize],
+)
     requires there { ⌜ whole (shape code) ≤ length (now run) ⌝ }
     requires room { ⌜ length (now sums) ≡ shape code .m ⌝ ∗ ⌜ length (now wide) ≡ shape code .m + shape code .m ⌝ ∗ ⌜ shape code .m ≤ length (now places) ⌝ }
     ensures { λ _. ⌜ now (run .exit) ≡ encoded zero plus (shape code) (tables code) (now (run .entry)) ⌝ }
@@ -59,7 +76,12 @@ fn encode_by_rows<C: QuasiCyclic, E: Element>(code: C, run: &mut [E], sums: &mut
     let group = 4 * code.segment();
     write_group(run, sums, table, code.message_terms(), (groups + 2) * group);
     write_group(run, sums, table, code.asked_terms(), groups * group);
-    let product = Product { source: 4 * groups, sources: 4, target: 4 * (groups + 1), targets: 4 };
+    let product = Product {
+        source: 4 * groups,
+        sources: 4,
+        target: 4 * (groups + 1),
+        targets: 4,
+    };
     write_product(run, sums, wide, places, code.inverse(), product);
     complete(code, run, sums);
     write_group(run, sums, table, code.closing_terms(), groups * group);
@@ -72,7 +94,14 @@ enum Way {
     Rows,
 }
 
-fn encode_in<C: QuasiCyclic, E: Element>(way: Way, code: C, run: &mut [E], sums: &mut [E], wide: &mut [E], places: &mut [usize])
+fn encode_in<C: QuasiCyclic, E: Element>(
+    way: Way,
+    code: C,
+    run: &mut [E],
+    sums: &mut [E],
+    wide: &mut [E],
+    places: &mut [usize],
+)
     requires there { ⌜ whole (shape code) ≤ length (now run) ⌝ }
     requires room { ⌜ length (now sums) ≡ shape code .m ⌝ ∗ ⌜ length (now wide) ≡ shape code .m + shape code .m ⌝ ∗ ⌜ shape code .m ≤ length (now places) ⌝ }
     ensures { λ _. ⌜ now (run .exit) ≡ encoded zero plus (shape code) (tables code) (now (run .entry)) ⌝ }
@@ -88,6 +117,10 @@ const LONGEST_TWICE: usize = 2 * LONGEST_SEGMENT;
 fn encode_with<C: QuasiCyclic, E: Element>(way: Way, code: C, run: &mut [E]) -> Result<(), RunFault>
     ensures answer { λ r. ⌜ outcome run-fault r ≡ encode-answer zero plus (shape code) (tables code) (now (run .entry)) ⌝ }
     ensures after { λ _. ⌜ now (run .exit) ≡ encoded-run zero plus (shape code) (tables code) (now (run .entry)) ⌝ }
+    ensures coded { λ _. ⌜ (whole (shape code) ≤ length (now (run .entry)) → Coded zero plus (shape code) (tables code) (now (run .entry))) ⌝ }
+    ensures linear { λ _. ⌜ Linear zero plus (shape code) (tables code) ⌝ }
+    ensures zeros { λ _. ⌜ ZeroBlock zero plus (shape code) (tables code) ⌝ }
+    ensures turns { λ _. ⌜ Turns zero plus (shape code) (tables code) ⌝ }
 {
     if run.len() < whole_len(code) {
         return Err(RunFault::TooShort);
@@ -98,7 +131,14 @@ fn encode_with<C: QuasiCyclic, E: Element>(way: Way, code: C, run: &mut [E]) -> 
     let mut places = [0; LONGEST_SEGMENT];
     let sums = &mut all_sums[..];
     let wide = &mut all_wide[..];
-    encode_in(way, code, run, &mut sums[0..m], &mut wide[0..2 * m], &mut places);
+    encode_in(
+        way,
+        code,
+        run,
+        &mut sums[0..m],
+        &mut wide[0..2 * m],
+        &mut places,
+    );
     Ok(())
 }
 

@@ -72,8 +72,5 @@ pub fn check<C: QuasiCyclic, E: Element>(code: C, run: &mut [E]) -> Result<Verdi
     let longest = &mut scratch[..];
     let sums = &mut longest[0..code.segment()];
     complete(code, run, sums);
-    match lowest_failing(code, run, sums) {
-        Some(r) => Ok(Verdict::Fails(r)),
-        None => Ok(Verdict::Passes),
-    }
+    Ok(Verdict::of(lowest_failing(code, run, sums)))
 }

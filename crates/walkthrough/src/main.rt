@@ -24,11 +24,22 @@ use std::error::AnyError;
 // The parity of the message with only bit 992 set, at rate 4/5: the first rows that the standard's printed
 // generator table has for row 993, most significant bit first.
 const PRINTED_PARITY: [u32; 8] = [
-    0x32fefcaf, 0x70863b75, 0x3846f110, 0xc4e23dff, 0x79d3f753, 0x064648fa, 0x830452f5, 0xb9ed8445,
+    0x32fefcaf,
+    0x70863b75,
+    0x3846f110,
+    0xc4e23dff,
+    0x79d3f753,
+    0x064648fa,
+    0x830452f5,
+    0xb9ed8445,
 ];
 
 fn bit(word: u32, place: u32) -> Bit {
-    if (word >> (31 - place % 32)) % 2 == 1 { Bit::One } else { Bit::Zero }
+    if (word >> (31 - place % 32)) % 2 == 1 {
+        Bit::One
+    } else {
+        Bit::Zero
+    }
 }
 
 // A block of zeros with room for its punctured bits behind it.
@@ -46,7 +57,8 @@ fn set_bit(block: &mut [Bit], place: usize) {
 fn write_words(block: &mut [Bit], from: usize, words: &[u32]) {
     for (i, word) in words.iter().enumerate() {
         for place in 0..32u32 {
-            let at = from.saturating_add(i.saturating_mul(32)).saturating_add(place as usize);
+            let at = from.saturating_add(i.saturating_mul(32))
+                .saturating_add(place as usize);
             if at < block.len() {
                 block[at] = bit(*word, place);
             }
@@ -68,8 +80,14 @@ fn word_at(block: &[Bit], from: usize) -> u32 {
 
 fn tell(rt: &impl Print, code: Code, block: &mut [Bit]) -> Result<(), AnyError> {
     match qc::check(code, block) {
-        Ok(Verdict::Passes) => println!(rt, "  All rows of the parity-check matrix are zero: the block passes.")?,
-        Ok(Verdict::Fails(row)) => println!(rt, "  The block fails: row {row} is the lowest that is not zero.")?,
+        Ok(Verdict::Passes) => println!(
+            rt,
+            "  All rows of the parity-check matrix are zero: the block passes."
+        )?,
+        Ok(Verdict::Fails(row)) => println!(
+            rt,
+            "  The block fails: row {row} is the lowest that is not zero."
+        )?,
         Err(_) => println!(rt, "  The buffer is shorter than a whole block.")?,
     }
     Ok(())
@@ -81,8 +99,15 @@ fn check_printed_codeblock(rt: &LibcRuntime) -> Result<(), AnyError> {
     set_bit(&mut block, 992);
     write_words(&mut block, 1024, &PRINTED_PARITY);
     let sent = code.block_len();
-    println!(rt, "The codeblock of rate 4/5 whose message has only bit 992 set, with the parity that the standard prints:")?;
-    println!(rt, "  {sent} bits are sent, and {} more are punctured and worked out again.", code.group_len())?;
+    println!(
+        rt,
+        "The codeblock of rate 4/5 whose message has only bit 992 set, with the parity that the standard prints:"
+    )?;
+    println!(
+        rt,
+        "  {sent} bits are sent, and {} more are punctured and worked out again.",
+        code.group_len()
+    )?;
     tell(rt, code, &mut block)?;
     println!(rt, "The same block with its bit 1000 damaged:")?;
     set_bit(&mut block, 1000);
@@ -108,12 +133,22 @@ fn code_both_ways(rt: &LibcRuntime) -> Result<(), AnyError> {
     write_words(&mut by_rows, 0, &words);
     let _ = TableCoder.encode(code, &mut by_table);
     let _ = CheckCoder.encode(code, &mut by_rows);
-    println!(rt, "The message of the bytes 0 to 127, coded at rate 2/3 by the generator table and by the rows:")?;
+    println!(
+        rt,
+        "The message of the bytes 0 to 127, coded at rate 2/3 by the generator table and by the rows:"
+    )?;
     let begins = word_at(&by_table, 1024);
     let ends = word_at(&by_table, 1504);
     println!(rt, "  the parity begins {begins:08X} and ends {ends:08X};")?;
-    let verdict = if by_table == by_rows { "the same" } else { "NOT the same" };
-    println!(rt, "  the two coders made {verdict} block, punctured bits and all.")?;
+    let verdict = if by_table == by_rows {
+        "the same"
+    } else {
+        "NOT the same"
+    };
+    println!(
+        rt,
+        "  the two coders made {verdict} block, punctured bits and all."
+    )?;
     tell(rt, code, &mut by_rows)
 }
 
@@ -124,13 +159,21 @@ fn show_pile(rt: &LibcRuntime) -> Result<(), AnyError> {
     for _ in 0..104 {
         let _ = pile.take(Bit::Zero);
     }
-    println!(rt, "104 zeros through a randomizer over an inverter over a packed outlet, {} of {} places held:", pile.held(), pile.capacity())?;
+    println!(
+        rt,
+        "104 zeros through a randomizer over an inverter over a packed outlet, {} of {} places held:",
+        pile.held(),
+        pile.capacity()
+    )?;
     print!(rt, "  ")?;
     for byte in pile.into_below().into_below().into_bytes().iter() {
         print!(rt, "{byte:02X}")?;
     }
     println!(rt, "")?;
-    println!(rt, "  the complements of 64 zeros and of the sequence that begins FF480EC09A.")?;
+    println!(
+        rt,
+        "  the complements of 64 zeros and of the sequence that begins FF480EC09A."
+    )?;
     Ok(())
 }
 

@@ -17,8 +17,8 @@ add-shifted-requires g c κs =
     record {
       sixteens = omega (arith, c .pre .lengths .0, c .pre .words .1 .0);
       there = λ k h.
-        let low = ones-most bits m k (omega (arith, h, ap length is)) in
-        omega (arith, low, ap (λ l. getD l k 0) is, c .write-twice .kept .wide, c .pre .lengths .0, c .pre .lengths .1 .0);
+          let low = ones-most bits m k (omega (arith, h, ap length is)) in
+          omega (arith, low, ap (λ l. getD l k 0) is, c .write-twice .kept .wide, c .pre .lengths .0, c .pre .lengths .1 .0);
     }
 
 pub returns : need.returns
@@ -32,9 +32,9 @@ returns g c = λ s h.
     let is = ap (λ n. take n (c .list-ones-n .last .places)) all ∙ c .list-ones-n .ensures .listed in
     c .add-shifted .ensures s h
     ∙ ap (e .plus (getD (c .args .sums .now) s (e .zero)))
-        (ap (total (e .zero) (e .plus) (λ k. getD wide (k + s) (e .zero))) is
-         ∙ ones-total (e .laws) (λ k. getD wide (k + s) (e .zero)) bits m
-         ∙ sum-ext (e .laws) m _ _ (λ i l.
-             ap (times (e .zero) (bits i))
-               (c .write-twice .ensures (i + 1 + s) (omega (arith, c .pre .lengths .0))
-                ∙ (let on : i + 1 + s ≡ s + (1 + i) = omega arith in ap (λ p. getD segment (p % m) (e .zero)) on))))
+    (ap (total (e .zero) (e .plus) (λ k. getD wide (k + s) (e .zero))) is
+    ∙ ones-total (e .laws) (λ k. getD wide (k + s) (e .zero)) bits m
+    ∙ sum-ext (e .laws) m _ _ (λ i l.
+    ap (times (e .zero) (bits i))
+    (c .write-twice .ensures (i + 1 + s) (omega (arith, c .pre .lengths .0))
+    ∙ (let on : i + 1 + s ≡ s + (1 + i) = omega arith in ap (λ p. getD segment (p % m) (e .zero)) on))))

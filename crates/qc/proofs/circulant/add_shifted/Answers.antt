@@ -26,15 +26,15 @@ loop-b-again g c =
     let b = c .loop-b .b in
     let next : 16 * b + 16 ≡ 16 * (b + 1) = omega arith in
     subst (λ n. Written (e .zero) (λ p. e .plus (getD (c .args .sums .now) p (e .zero)) (total (e .zero) (e .plus) (λ k. getD wide (k + p) (e .zero)) places)) 0 (c .args .sums .now) (c .add-at .last .sums) n) next
-      (written-block (c .loop-b .sums) (c .add-at .last .sums) (16 * b) 16 (c .loop-b .inv) (omega arith)
-        (c .add-at .ensures .before)
-        (λ i h.
-           let off : 16 * b + i - 16 * b ≡ i = omega arith in
-           c .add-at .ensures .made (16 * b + i) (omega arith) (omega arith)
-           ∙ ap₂ (e .plus) (c .loop-b .inv .after (16 * b + i) (omega arith))
-               (ap (λ q. getD (c .sums-at-more .result) q (e .zero)) off ∙ c .sums-at-more .ensures i h
-                ∙ total-same (e .zero) (e .plus) _ _ (λ k. let q : 16 * b + k + i ≡ k + (16 * b + i) = omega arith in ap (λ p. getD wide p (e .zero)) q) places))
-        (c .add-at .ensures .after))
+    (written-block (c .loop-b .sums) (c .add-at .last .sums) (16 * b) 16 (c .loop-b .inv) (omega arith)
+    (c .add-at .ensures .before)
+    (λ i h.
+    let off : 16 * b + i - 16 * b ≡ i = omega arith in
+    c .add-at .ensures .made (16 * b + i) (omega arith) (omega arith)
+    ∙ ap₂ (e .plus) (c .loop-b .inv .after (16 * b + i) (omega arith))
+    (ap (λ q. getD (c .sums-at-more .result) q (e .zero)) off ∙ c .sums-at-more .ensures i h
+    ∙ total-same (e .zero) (e .plus) _ _ (λ k. let q : 16 * b + k + i ≡ k + (16 * b + i) = omega arith in ap (λ p. getD wide p (e .zero)) q) places))
+    (c .add-at .ensures .after))
 
 pub returns : need.returns
 returns g c = λ i h. c .loop-b .inv .made i (omega (arith, c .loop-b-test .left, c .pre .sixteens)) (omega arith)

@@ -18,14 +18,16 @@ loop-e-again c =
     let low : e < 32 * (m / 32) = omega (arith, c .loop-e-test .taken, c .pre .words .1 .0) in
     let whole : 32 * (m / 32) ≡ m = omega (arith, c .pre .words .1 .0) in
     let here : bits e ≡ bit (getD words (c .args .start + (m - 1 - e) / 32) 0) (e % 32) =
-        bit-number words (c .args .start) (m / 32) e low ∙ ap (λ n. bit (getD words (c .args .start + (n - 1 - e) / 32) 0) (e % 32)) whole in
+    bit-number words (c .args .start) (m / 32) e low ∙ ap (λ n. bit (getD words (c .args .start + (n - 1 - e) / 32) 0) (e % 32)) whole in
     elim (c .if-words-start-eq1 .came) [
-      then-words-start-eq1 w ↦
-        (ap₂ take (w .n-is) (w .places-is) ∙ ones-taken bits e (c .loop-e .n) (c .loop-e .places) room (c .loop-e .inv .0) (here ∙ w .if-words-start-eq1 .taken),
-         omega (arith, w .n-is, few))
-    | else-words-start-eq1 w ↦
-        (ap₂ take (w .n-is) (w .places-is) ∙ ones-left bits e (c .loop-e .n) (c .loop-e .places) (c .loop-e .inv .0) (here ∙ omega (arith, w .if-words-start-eq1 .left)),
-         omega (arith, w .n-is, few))
+      | then-words-start-eq1 w ↦ (
+        ap₂ take (w .n-is) (w .places-is) ∙ ones-taken bits e (c .loop-e .n) (c .loop-e .places) room (c .loop-e .inv .0) (here ∙ w .if-words-start-eq1 .taken),
+        omega (arith, w .n-is, few),
+      )
+      | else-words-start-eq1 w ↦ (
+        ap₂ take (w .n-is) (w .places-is) ∙ ones-left bits e (c .loop-e .n) (c .loop-e .places) (c .loop-e .inv .0) (here ∙ omega (arith, w .if-words-start-eq1 .left)),
+        omega (arith, w .n-is, few),
+      )
     ]
 
 pub returns : need.returns

@@ -84,8 +84,8 @@ loop-r-again g c = λ s h.
     let start = (p .targets * r + c .args .q) * (m / 32) in
     c .add-circulant .ensures s (omega (arith, c .loop-r .kept .sums, c .clear .kept .sums))
     ∙ ap₂ (e .plus) (c .loop-r .inv s h)
-        (ap (λ n. act (e .zero) (e .plus) n (number (c .args .words .now) start (n / 32)) (λ i. getD part i (e .zero)) s) long
-         ∙ act-same (e .laws) m (number (c .args .words .now) start (m / 32)) (λ i. getD part i (e .zero)) (segments (e .zero) m run (p .source + r)) s (λ i l. getD-part from m run i (e .zero) l))
+    (ap (λ n. act (e .zero) (e .plus) n (number (c .args .words .now) start (n / 32)) (λ i. getD part i (e .zero)) s) long
+    ∙ act-same (e .laws) m (number (c .args .words .now) start (m / 32)) (λ i. getD part i (e .zero)) (segments (e .zero) m run (p .source + r)) s (λ i l. getD-part from m run i (e .zero) l))
     ∙ sym (ap (λ n. sum (e .zero) (e .plus) n (λ r. act (e .zero) (e .plus) m (first-row m (c .args .words .now) (p .targets * r + c .args .q)) (segments (e .zero) m run (p .source + r)) s)) (add-one r))
 
 pub returns : need.returns

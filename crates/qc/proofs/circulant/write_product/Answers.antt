@@ -57,10 +57,10 @@ loop-q-again g c =
     let here = subst (λ n. (i : ℕ) → i < length (c .sum-circulants .last .sums) → getD (c .write-segment .last .run) (n + i) (e .zero) ≡ getD (c .sum-circulants .last .sums) i (e .zero)) at (c .write-segment .ensures .made) in
     let rest = subst (λ n. (i : ℕ) → n + length (c .sum-circulants .last .sums) ≤ i → getD (c .write-segment .last .run) i (e .zero) ≡ getD (c .loop-q .run) i (e .zero)) at (c .write-segment .ensures .rest) in
     group-more (e .zero) (product-at (e .zero) (e .plus) m words p (segments (e .zero) m (c .args .run .now))) m (p .target * m) q
-      (c .args .run .now) (c .loop-q .run) (c .write-segment .last .run) (c .sum-circulants .last .sums) long (c .loop-q .inv)
-      (λ s h. made s h ∙ sum-ext (e .laws) (p .sources) _ _ (λ r hr.
-         act-same (e .laws) m (first-row m words (p .targets * r + q)) _ _ s (λ i hi.
-           let lt : p .source + r < p .target = omega (arith, c .pre .apart) in
-           let low = held (p .source + r) (p .target) m (p .target * m) lt (c .pre .lengths .1 .1) (omega arith) .part in
-           c .loop-q .inv .before ((p .source + r) * m + i) (omega (arith, low)))))
-      before here rest
+    (c .args .run .now) (c .loop-q .run) (c .write-segment .last .run) (c .sum-circulants .last .sums) long (c .loop-q .inv)
+    (λ s h. made s h ∙ sum-ext (e .laws) (p .sources) _ _ (λ r hr.
+    act-same (e .laws) m (first-row m words (p .targets * r + q)) _ _ s (λ i hi.
+    let lt : p .source + r < p .target = omega (arith, c .pre .apart) in
+    let low = held (p .source + r) (p .target) m (p .target * m) lt (c .pre .lengths .1 .1) (omega arith) .part in
+    c .loop-q .inv .before ((p .source + r) * m + i) (omega (arith, low)))))
+    before here rest

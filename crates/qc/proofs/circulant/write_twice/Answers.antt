@@ -14,7 +14,7 @@ loop-i-again g c =
     let segment = c .args .segment .now in
     let here : c .loop-i .i < length (c .loop-i .wide) = omega (arith, c .loop-i .kept .wide, c .pre, c .loop-i-test .taken) in
     written-more (c .loop-i .wide) (c .loop-i .i) _ (c .loop-i .inv) (omega arith) here
-      (getD-read segment _ _ (c .loop-i-test .taken) (c .index-segment-i .is) (e .zero) ∙ ap (λ p. getD segment p (e .zero)) (sym (mod-eq-of-lt (c .loop-i-test .taken))))
+    (getD-read segment _ _ (c .loop-i-test .taken) (c .index-segment-i .is) (e .zero) ∙ ap (λ p. getD segment p (e .zero)) (sym (mod-eq-of-lt (c .loop-i-test .taken))))
 
 pub loop-i-2-again : need.loop-i-2-again
 loop-i-2-again g c =
@@ -25,7 +25,7 @@ loop-i-2-again g c =
     let within : i - length segment < length segment = omega (arith, c .loop-i-2-test .taken) in
     let here : i < length (c .loop-i-2 .wide) = omega (arith, c .loop-i-2 .kept .wide, c .loop-i .kept .wide, c .pre, c .loop-i-2-test .taken) in
     written-more (c .loop-i-2 .wide) i _ (c .loop-i-2 .inv) low here
-      (getD-read segment _ _ within (c .index-segment-i-in-loop-i-2 .is) (e .zero) ∙ ap (λ p. getD segment p (e .zero)) (once-more (length segment) i low (omega (arith, c .loop-i-2-test .taken))))
+    (getD-read segment _ _ within (c .index-segment-i-in-loop-i-2 .is) (e .zero) ∙ ap (λ p. getD segment p (e .zero)) (once-more (length segment) i low (omega (arith, c .loop-i-2-test .taken))))
 
 pub returns : need.returns
 returns g c = λ i h. go i h (decLt i (length (c .args .segment .now)))

@@ -129,11 +129,11 @@ returns g c =
     let high = ap₂ (λ k m. (k + 2) * (4 * m)) k (c .segment-group .ensures) in
     let low = ap₂ (λ k m. k * (4 * m)) k (c .segment-group .ensures) in
     let is : factors (length (c .write-group-2 .last .sums)) (c .inverse .result .now) (4 * c .message-groups-groups .result) (4 * (c .message-groups-groups .result + 1)) ≡ factors (shape .m) (tables .inverse) (4 * shape .K) (4 * (shape .K + 1)) =
-        λ i. factors (m3 i) (c .inverse .ensures i) (4 * k i) (4 * (k i + 1)) in
+    λ i. factors (m3 i) (c .inverse .ensures i) (4 * k i) (4 * (k i + 1)) in
     made-by-rows (e .laws) shape ok tables hold r0 r1 r2 r3 r5 (c .pre .there)
-      (c .write-group .kept .run) (c .write-group-2 .kept .run) (c .write-product .kept .run) (c .write-group-3 .kept .run ∙ ap length (c .complete .ensures))
-      (group-written (e .zero) (e .plus) shape (shape .u3) (shape .K + 2) _ _ _ r0 r1 _ m1 (c .table-table .ensures) (c .message-terms .ensures) high (c .write-group .ensures))
-      (group-written (e .zero) (e .plus) shape (asked shape) (shape .K) _ _ _ r1 r2 _ m2 (c .table-table .ensures) (c .asked-terms .ensures) low (c .write-group-2 .ensures))
-      (product-written (e .zero) (e .plus) (factors (shape .m) (tables .inverse) (4 * shape .K) (4 * (shape .K + 1))) r2 r3 (subst (Multiplied (e .zero) (e .plus) r2 r3) is (c .write-product .ensures)))
-      (subst (λ (l : List (g .E .Denot)). SegmentsWritten (e .zero) (shape .m) (segment-sum (e .zero) (e .plus) (shape .m) (permutations shape) (terms (closing shape)) (segments (e .zero) (shape .m) l)) (4 * shape .K) l r5 4) (c .complete .ensures)
-        (group-written (e .zero) (e .plus) shape (closing shape) (shape .K) _ _ _ (c .complete .last .run) r5 _ m5 (c .table-table .ensures) (c .closing-terms .ensures) low (c .write-group-3 .ensures)))
+    (c .write-group .kept .run) (c .write-group-2 .kept .run) (c .write-product .kept .run) (c .write-group-3 .kept .run ∙ ap length (c .complete .ensures))
+    (group-written (e .zero) (e .plus) shape (shape .u3) (shape .K + 2) _ _ _ r0 r1 _ m1 (c .table-table .ensures) (c .message-terms .ensures) high (c .write-group .ensures))
+    (group-written (e .zero) (e .plus) shape (asked shape) (shape .K) _ _ _ r1 r2 _ m2 (c .table-table .ensures) (c .asked-terms .ensures) low (c .write-group-2 .ensures))
+    (product-written (e .zero) (e .plus) (factors (shape .m) (tables .inverse) (4 * shape .K) (4 * (shape .K + 1))) r2 r3 (subst (Multiplied (e .zero) (e .plus) r2 r3) is (c .write-product .ensures)))
+    (subst (λ (l : List (g .E .Denot)). SegmentsWritten (e .zero) (shape .m) (segment-sum (e .zero) (e .plus) (shape .m) (permutations shape) (terms (closing shape)) (segments (e .zero) (shape .m) l)) (4 * shape .K) l r5 4) (c .complete .ensures)
+    (group-written (e .zero) (e .plus) shape (closing shape) (shape .K) _ _ _ (c .complete .last .run) r5 _ m5 (c .table-table .ensures) (c .closing-terms .ensures) low (c .write-group-3 .ensures)))

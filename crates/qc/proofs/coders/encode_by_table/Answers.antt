@@ -47,8 +47,8 @@ returns g c =
     let ok = sounds shape (g .C·QuasiCyclic .lawful (c .args .code)) in
     let run = c .args .run .now in
     let is : given-as (length (c .args .sums .now)) (c .generator .result .now) (4 * c .message-groups-segments .result) ≡ given-as (shape .m) (tables .generator) (4 * shape .K) =
-        λ i. given-as (c .pre .room .0 i) (c .generator .ensures i) (4 * c .message-groups-segments .ensures i) in
+    λ i. given-as (c .pre .room .0 i) (c .generator .ensures i) (4 * c .message-groups-segments .ensures i) in
     c .complete .ensures
     ∙ ap (completed (e .zero) (e .plus) shape)
-        (made-by-table (e .laws) shape ok tables run (c .write-product .last .run) (c .pre .there) (c .write-product .kept .run)
-          (subst (Produced (e .zero) (e .plus) run (c .write-product .last .run)) is (c .write-product .ensures)))
+    (made-by-table (e .laws) shape ok tables run (c .write-product .last .run) (c .pre .there) (c .write-product .kept .run)
+    (subst (Produced (e .zero) (e .plus) run (c .write-product .last .run)) is (c .write-product .ensures)))

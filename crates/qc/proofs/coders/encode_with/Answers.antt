@@ -1,15 +1,21 @@
 use mathlib.Core.Path.{_≡_, sym, ap, _∙_}
-use mathlib.Core.Bool.{cond}
-use Prim.Native.Nat.{_≤_}
+use mathlib.Core.Bool.{Bool, true, cond}
+use mathlib.Core.List.{List}
+use Prim.Native.Nat.{_<_, _≤_}
 use native.Mathlib.Omega.{arith}
 use borrow.Author.Needs.{needs}
 use lib.ListN.{length}
-use Rattle.std.proofs.shelf.Tests.{le-ltb}
+use Rattle.std.proofs.shelf.Tests.{le-ltb, cond-below}
+use Rattle.element.specs.Laws.{Laws}
 use Rattle.refusal.specs.Outcome.{Outcome.done, Outcome.refused}
 use Rattle.qc.specs.declared.answers.RunFault.the-variants.{TooShort}
 use Rattle.qc.specs.Refusals.{run-fault}
-use Rattle.qc.specs.Shape.{whole}
-use Rattle.qc.specs.Coding.{encoded}
+use Rattle.qc.specs.Shape.{Shape, whole}
+use Rattle.qc.specs.Sound.{sound}
+use Rattle.qc.specs.Rules.{tabulated}
+use Rattle.qc.specs.Coding.{Tables, encoded, Coded, Linear, ZeroBlock, Turns}
+use Rattle.qc.proofs.Tabulated.{tables-hold}
+use Rattle.qc.proofs.CodingLaws.{is-coded, is-linear, zero-block, is-turning}
 use Rattle.qc.proofs.Soundness.{sounds}
 use Rattle.qc.proofs.Answered.{fewer-fit}
 use Rattle.qc.proofs.coders.encode_with.Needs as need
@@ -42,14 +48,50 @@ encode-in-requires g c κs =
     let n = c .whole-len .ensures in
     search needs
 
+pub record CoderLaws {E : Type 0} (none : E) (plus : E → E → E) (c : Shape) (t : Tables) : Type 0 where
+  pub coded : (xs : List E) → whole c ≤ length xs → Coded none plus c t xs
+  pub linear : Linear none plus c t
+  pub zeros : ZeroBlock none plus c t
+  pub turns : Turns none plus c t
+
+-- the laws, whatever the call answers
+laws-of : {E : Type 0} {none : E} {plus : E → E → E} {same : E → E → Bool} → Laws none plus same → (c : Shape) (t : Tables) → sound c ≡ true → tabulated c t ≡ true → CoderLaws none plus c t
+laws-of laws c t s r =
+    let ok = sounds c s in
+    let hold = tables-hold c t r in
+    record { coded = is-coded laws c ok t hold; linear = is-linear laws c ok t hold; zeros = zero-block laws c ok t hold; turns = is-turning laws c ok t hold }
+
+pub returns-then-run-whole-len : need.returns-then-run-whole-len
+returns-then-run-whole-len g c =
+    let e = g .E·Element in
+    let code = c .args .code in
+    let shape = g .C·QuasiCyclic .shape code in
+    let run = c .args .run .now in
+    let laws = laws-of (e .laws) shape (g .C·QuasiCyclic .tables code) (g .C·QuasiCyclic .lawful code) (g .C·QuasiCyclic .ruled code) in
+    let short : length run < whole shape = omega (arith, c .if-run-whole-len .taken, c .whole-len .ensures) in
+    record {
+      answer = cond-below (length run) (whole shape) _ _ short;
+      after = cond-below (length run) (whole shape) _ _ short;
+      coded = laws .coded run;
+      linear = laws .linear;
+      zeros = laws .zeros;
+      turns = laws .turns;
+    }
+
 pub returns : need.returns
 returns g c =
     let e = g .E·Element in
-    let shape = g .C·QuasiCyclic .shape (c .args .code) in
-    let tables = g .C·QuasiCyclic .tables (c .args .code) in
+    let code = c .args .code in
+    let shape = g .C·QuasiCyclic .shape code in
+    let tables = g .C·QuasiCyclic .tables code in
     let run = c .args .run .now in
+    let laws = laws-of (e .laws) shape tables (g .C·QuasiCyclic .lawful code) (g .C·QuasiCyclic .ruled code) in
     let fits : whole shape ≤ length run = omega (arith, c .if-run-whole-len .left, c .whole-len .ensures) in
     record {
       answer = sym (ap (λ t. cond t (refused (run-fault TooShort)) (done tt)) (le-ltb (length run) (whole shape) fits));
       after = c .encode-in .ensures ∙ sym (ap (λ t. cond t run (encoded (e .zero) (e .plus) shape tables run)) (le-ltb (length run) (whole shape) fits));
+      coded = laws .coded run;
+      linear = laws .linear;
+      zeros = laws .zeros;
+      turns = laws .turns;
     }

@@ -35,7 +35,7 @@ loop-j-again g c =
     group-more (e .zero) (segment-sum (e .zero) (e .plus) m (c .args .table .now) (c .args .terms .now) (segments (e .zero) m (c .args .run .now))) m (c .args .from) j
     (c .args .run .now) (c .loop-j .run) (c .write-segment .last .run) (c .sum-segment .last .sums) (c .sum-segment .kept .sums ∙ c .loop-j .kept .sums) (c .loop-j .inv)
     (λ s h. made s h ∙ sum-same (e .zero) (e .plus) m (c .args .from) (length (c .args .run .now)) (c .args .table .now) (c .args .terms .now) (c .pre .readable) (c .pre .apart) (c .loop-j .run) (c .args .run .now)
-         (λ p away. ⊎-elim (λ low. c .loop-j .inv .before p low) (λ high. c .loop-j .inv .after p (omega (arith, within-group j m (c .loop-j-test .taken)))) away) j s (c .loop-j-test .taken) h)
+    (λ p away. ⊎-elim (λ low. c .loop-j .inv .before p low) (λ high. c .loop-j .inv .after p (omega (arith, within-group j m (c .loop-j-test .taken)))) away) j s (c .loop-j-test .taken) h)
     (c .write-segment .ensures .before) (c .write-segment .ensures .made) (c .write-segment .ensures .rest)
 
 pub returns : need.returns

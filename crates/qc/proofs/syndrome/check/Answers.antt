@@ -3,11 +3,11 @@ use Prim.Native.Nat.{_<_, _≤_}
 use native.Mathlib.Omega.{arith}
 use lib.ListN.{length}
 use Rattle.std.proofs.shelf.Tests.{cond-below}
-use Rattle.std.specs.declared.option.Option.the-variants.{Some, None}
+use Rattle.refusal.specs.Outcome
 use Rattle.qc.specs.Shape.{M, whole}
 use Rattle.qc.specs.Codeblock.{groups}
 use Rattle.qc.proofs.Soundness.{sounds}
-use Rattle.qc.proofs.Answered.{answered, left, passes, fewer-fit, joined}
+use Rattle.qc.proofs.Answered.{answered, left, passes, fewer-fit, joined, told}
 use Rattle.qc.proofs.Tabulated.{tables-hold}
 use Rattle.qc.proofs.Verdicts.{only}
 use Rattle.qc.proofs.CodingLaws.{codeblock-reproduced, reproduced-codeblock}
@@ -38,8 +38,8 @@ returns-then-run-whole-len g c =
       coders = λ fits. absurd (omega arith);
     }
 
-pub returns-in-Some : need.returns-in-Some
-returns-in-Some g c =
+pub returns : need.returns
+returns g c =
     let e = g .E·Element in
     let shape = g .C·QuasiCyclic .shape (c .args .code) in
     let tables = g .C·QuasiCyclic .tables (c .args .code) in
@@ -48,32 +48,13 @@ returns-in-Some g c =
     let fits : whole shape ≤ length (c .args .run .now) = omega (arith, c .if-run-whole-len .left, c .whole-len .ensures) in
     let run = c .args .run .now in
     let done = c .complete .last .run in
-    let low = c .in-Some .ensures tt in
-    let passing = passes (e .laws) shape ok run fits done (c .complete .ensures) (Some (c .in-Some .r)) low in
+    let o = c .lowest-failing .result in
+    let low = c .lowest-failing .ensures in
+    let passing = passes (e .laws) shape ok run fits done (c .complete .ensures) o low in
     record {
-      answer = answered (e .laws) shape ok run fits done (c .complete .ensures) (Some (c .in-Some .r)) low;
-      after = left (e .laws) shape ok run fits done (c .complete .ensures) (Some (c .in-Some .r)) low;
-      passes = λ _. passing;
+      answer = ap (λ v. Outcome.done v) (c .of .ensures) ∙ answered (e .laws) shape ok run fits done (c .complete .ensures) o low;
+      after = left (e .laws) shape ok run fits done (c .complete .ensures) o low;
+      passes = λ _. told (c .of .ensures) passing;
       only = only (e .laws) shape ok (groups (e .zero) (M shape) run);
-      coders = λ _. joined passing (codeblock-reproduced (e .laws) shape ok tables hold run fits, reproduced-codeblock (e .laws) shape ok tables hold run fits);
-    }
-
-pub returns-in-None : need.returns-in-None
-returns-in-None g c =
-    let e = g .E·Element in
-    let shape = g .C·QuasiCyclic .shape (c .args .code) in
-    let tables = g .C·QuasiCyclic .tables (c .args .code) in
-    let ok = sounds shape (g .C·QuasiCyclic .lawful (c .args .code)) in
-    let hold = tables-hold shape tables (g .C·QuasiCyclic .ruled (c .args .code)) in
-    let fits : whole shape ≤ length (c .args .run .now) = omega (arith, c .if-run-whole-len .left, c .whole-len .ensures) in
-    let run = c .args .run .now in
-    let done = c .complete .last .run in
-    let low = c .in-None .ensures tt in
-    let passing = passes (e .laws) shape ok run fits done (c .complete .ensures) None low in
-    record {
-      answer = answered (e .laws) shape ok run fits done (c .complete .ensures) None low;
-      after = left (e .laws) shape ok run fits done (c .complete .ensures) None low;
-      passes = λ _. passing;
-      only = only (e .laws) shape ok (groups (e .zero) (M shape) run);
-      coders = λ _. joined passing (codeblock-reproduced (e .laws) shape ok tables hold run fits, reproduced-codeblock (e .laws) shape ok tables hold run fits);
+      coders = λ _. told (c .of .ensures) (joined passing (codeblock-reproduced (e .laws) shape ok tables hold run fits, reproduced-codeblock (e .laws) shape ok tables hold run fits));
     }
