@@ -1,0 +1,4 @@
+pub mod Refusals
+pub mod Marker
+pub mod Message
+pub mod Reading
