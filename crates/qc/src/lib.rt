@@ -1,6 +1,7 @@
 // Quasi-cyclic codes with punctured bits, over any element kind and any segment length: permutations,
 // block equations, and the check of a block. It knows the numbers of no code.
 mod answers;
+mod check_rows;
 mod circulant;
 mod coders;
 mod kernel;
@@ -11,6 +12,7 @@ mod terms;
 pub use answers::RunFault;
 pub use answers::RunFaultRefusal;
 pub use answers::Verdict;
+pub use check_rows::rows_of_segment;
 pub use coders::CheckCoder;
 pub use coders::CheckCoderCoder;
 pub use coders::Coder;
