@@ -4,3 +4,8 @@ pub mod Pivoting
 pub mod Repairing
 pub mod Inserting
 pub mod Reading
+pub mod Ranks
+pub mod Laying
+pub mod Assignments
+pub mod Fitting
+pub mod Solved

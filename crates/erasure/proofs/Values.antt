@@ -49,8 +49,16 @@ value-plus u s f g =
       ∙ dot-plus-left u (member (f .unknowns)) (member (g .unknowns)) s)
     ∙ swap bit-laws (f .bit) (g .bit) (dot u (member (f .unknowns)) s) (dot u (member (g .unknowns)) s)
 
+-- a form with no unknowns is its bit
+pub dot-constant : (u : ℕ) (s : ℕ → Bit) → dot u (member 0) s ≡ Zero
+dot-constant u s = dot-none u (member 0) s (λ k h. ap (λ b. both b (s k)) (member-zero k))
+
 pub value-zero : (u : ℕ) (s : ℕ → Bit) → value u s form-zero ≡ Zero
-value-zero u s = ap (bit-plus Zero) (dot-none u (member 0) s (λ k h. ap (λ b. both b (s k)) (member-zero k)))
+value-zero u s = ap (bit-plus Zero) (dot-constant u s)
 
 pub value-keeps : (u : ℕ) (s : ℕ → Bit) → Keeps form-zero form-plus Zero bit-plus (value u s)
 value-keeps u s = record { keeps-zero = value-zero u s; keeps-sum = value-plus u s }
+
+-- only the unknowns below u count
+pub value-ext : (u : ℕ) (s t : ℕ → Bit) (f : Form) → ((k : ℕ) → k < u → s k ≡ t k) → value u s f ≡ value u t f
+value-ext u s t f e = ap (bit-plus (f .bit)) (dot-ext u (member (f .unknowns)) (member (f .unknowns)) s t (λ k h. ap (both (member (f .unknowns) k)) (e k h)))

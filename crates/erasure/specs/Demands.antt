@@ -7,6 +7,9 @@ use lib.ListN.{length}
 use Rattle.element.specs.declared.Bit.{Bit}
 use Rattle.element.specs.declared.Bit.the-variants.{Zero}
 use Rattle.element.specs.declared.Form.{Form}
+use Rattle.element.specs.Forms.{form-zero, form-plus}
+use Rattle.qc.specs.Shape.{Shape, M}
+use Rattle.qc.specs.Codeblock.{row, groups}
 use Rattle.erasure.specs.Unknowns.{value, pivot, Solves}
 
 -- the same assignments
@@ -30,3 +33,7 @@ Zeros u fs n s = (i : ℕ) → i < n → value u s (pivot fs i) ≡ Zero
 -- all of the forms are zero
 abbrev pub Demanded : ℕ → List Form → List Form → List Form → Bool → Type 0
 Demanded u t fs v r = Adds u t (Zeros u fs (length fs)) v r
+
+-- the first n rows of a whole block of forms are zero
+abbrev pub RowsZero : ℕ → Shape → List Form → ℕ → (ℕ → Bit) → Type 0
+RowsZero u c xs n s = (r : ℕ) → r < n → value u s (row form-zero form-plus c (groups form-zero (M c) xs) r) ≡ Zero

@@ -1,4 +1,11 @@
 // Erasure fill: the erased symbols of a block, exactly when one codeblock fits the others. An erased symbol is
 // an unknown, the rows of the block are affine forms in the unknowns, and elimination settles them.
 mod elimination;
+mod faults;
+mod marks;
 mod solutions;
+mod solving;
+
+pub use faults::FillFault;
+pub use faults::FillFaultRefusal;
+pub use marks::Mark;
