@@ -35,7 +35,7 @@ module _ (c : Shape) (ok : Sound c) (ms : List Mark) (size : length ms ≡ sent 
   abbrev u : ℕ
   u = erasures ms
 
-  room : length ms ≤ length xs
+  pub room : length ms ≤ length xs
   room = omega (arith, size, fits, group-more form-zero form-plus c xs fits)
 
   -- the block that an assignment makes

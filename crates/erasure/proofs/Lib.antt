@@ -9,3 +9,6 @@ pub mod Laying
 pub mod Assignments
 pub mod Fitting
 pub mod Solved
+pub mod Exact
+pub mod Left
+pub mod Outcomes

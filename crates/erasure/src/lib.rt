@@ -2,10 +2,12 @@
 // an unknown, the rows of the block are affine forms in the unknowns, and elimination settles them.
 mod elimination;
 mod faults;
+mod filling;
 mod marks;
 mod solutions;
 mod solving;
 
 pub use faults::FillFault;
 pub use faults::FillFaultRefusal;
+pub use filling::fill;
 pub use marks::Mark;
