@@ -5,7 +5,7 @@ use mathlib.Core.List.{List}
 use Prim.Native.Nat.{ℕ, _<_, _≤_}
 use native.Mathlib.Omega.{arith}
 use lib.ListN.{length}
-use Rattle.refusal.specs.Outcome.{Outcome, Outcome.done, Outcome.refused}
+use Rattle.refusal.specs.Outcome.{Outcome.done, Outcome.refused}
 use Rattle.element.specs.declared.Form.{Form}
 use Rattle.qc.specs.Shape.{Shape}
 use Rattle.erasure.specs.declared.marks.Mark.{Mark}

@@ -1,6 +1,5 @@
 -- Assignments of the unknowns that make all rows zero are the codeblocks that fit the marks.
-use mathlib.Core.Path.{_≡_, refl, sym, ap, ap₂, subst, _∙_}
-use mathlib.Core.Logic.{_≢_}
+use mathlib.Core.Path.{_≡_, refl, sym, ap, subst, _∙_}
 use mathlib.Core.List.{List, map}
 use Prim.Native.Nat.{ℕ, _+_, _*_, _<_, _≤_}
 use native.Mathlib.Nat.{mul-comm}
@@ -22,7 +21,7 @@ use Rattle.erasure.specs.declared.marks.Mark.{Mark}
 use Rattle.erasure.specs.declared.marks.Mark.the-variants.{Erased}
 use Rattle.erasure.specs.declared.marks.Mark.the-variants as mark
 use Rattle.erasure.specs.Unknowns.{member, value}
-use Rattle.erasure.specs.Demands.{Same, RowsZero}
+use Rattle.erasure.specs.Demands.{RowsZero}
 use Rattle.erasure.specs.Solutions.{Only, Many}
 use Rattle.erasure.specs.Marks.{mark-at, known, rank, erasures, form-of, form-at, marked-forms, laid, written, filled-of, Marked}
 use Rattle.erasure.specs.Fits.{Agrees, Fits, NoneFits, OnlyFits, TwoFit, Open}

@@ -1,9 +1,8 @@
 -- What inserting a form makes of the rows.
-use mathlib.Core.Path.{_≡_, refl, sym, ap, ap₂, subst, _∙_}
-use mathlib.Core.Logic.{_≢_}
+use mathlib.Core.Path.{_≡_, refl, sym, ap, _∙_}
 use mathlib.Core.List.{List}
 use mathlib.Core.Bool.{Bool, true, false}
-use Prim.Native.Nat.{ℕ, _+_, _<_, _≤_}
+use Prim.Native.Nat.{ℕ, _+_, _<_}
 use native.Mathlib.Omega.{arith}
 use borrow.Author.Count.{below-more}
 use lib.ListN.{length, set}
@@ -13,11 +12,11 @@ use Rattle.element.specs.declared.Bit.the-variants.{Zero, One}
 use Rattle.element.specs.declared.Form.{Form}
 use Rattle.element.specs.Bits.{bit-plus, bit-laws}
 use Rattle.element.specs.Forms.{form-zero}
-use Rattle.erasure.specs.Unknowns.{member, both, dot, value, pivot, Solves, Reduced, Cleared, added}
-use Rattle.erasure.specs.Demands.{Same, Adds, Inserted, Zeros}
+use Rattle.erasure.specs.Unknowns.{member, both, value, pivot, Solves, Reduced, Cleared, added}
+use Rattle.erasure.specs.Demands.{Same, Inserted, Zeros}
 use Rattle.qc.proofs.Sums.{right}
 use Rattle.erasure.proofs.Values.{dot-none}
-use Rattle.erasure.proofs.Pivoting.{Pivoted, solves-old, solves-form, solves-new, still-reduced}
+use Rattle.erasure.proofs.Pivoting.{Pivoted, solves-old, solves-form, solves-new}
 
 pub pivoted : (u : ℕ) (t : List Form) (g : Form) (k : ℕ) (v : List Form) → k < length v
   → ((p : ℕ) → p < u → pivot v p ≡ added (member (pivot t p .unknowns) k) (pivot t p) g) → Pivoted u t g k (set v k g)

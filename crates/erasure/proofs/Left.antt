@@ -1,9 +1,8 @@
 -- What a fill leaves in the work buffer and in the list of places.
-use mathlib.Core.Path.{_≡_, refl, sym, ap, subst, _∙_}
-use mathlib.Core.Logic.{_≢_}
-use mathlib.Core.Bool.{Bool, true, false, cond, _&&_}
+use mathlib.Core.Path.{_≡_, refl, sym, ap, _∙_}
+use mathlib.Core.Bool.{Bool, true, false, cond}
 use mathlib.Core.List.{List}
-use Prim.Native.Nat.{ℕ, _+_, _<_, _≤_}
+use Prim.Native.Nat.{ℕ, _+_, _<_}
 use native.Mathlib.Omega.{arith}
 use lib.Dec.{eqb, leb}
 use lib.ListN.{length, getD, drop}
@@ -14,7 +13,7 @@ use Rattle.qc.specs.Shape.{Shape, sent, whole}
 use Rattle.erasure.specs.declared.marks.Mark.{Mark}
 use Rattle.erasure.specs.Marks.{erasures, written, Marked}
 use Rattle.erasure.specs.Fits.{Open}
-use Rattle.erasure.specs.Fill.{Sized, Fillable, fillable, forms-after, PlacesAfter}
+use Rattle.erasure.specs.Fill.{Fillable, fillable, forms-after, PlacesAfter}
 use Rattle.erasure.specs.Places.{Places}
 
 module _ (c : Shape) (ms : List Mark) (xs : List Form) (ws : List ℕ) where

@@ -1,8 +1,8 @@
 -- One more form: taken apart by the rows, then substituted into them.
-use mathlib.Core.Path.{_≡_, refl, sym, ap, ap₂, subst, _∙_}
+use mathlib.Core.Path.{_≡_, refl, sym, ap, ap₂, _∙_}
 use mathlib.Core.Logic.{_≢_, _⊎_, inl, inr, ⊎-elim}
 use mathlib.Core.List.{List}
-use Prim.Native.Nat.{ℕ, zero, suc, _+_, _<_, _≤_}
+use Prim.Native.Nat.{ℕ, _+_, _<_}
 use Rattle.std.proofs.shelf.Tests.{cases-eq}
 use native.Mathlib.Omega.{arith}
 use borrow.Author.Count.{below-more}
@@ -11,7 +11,7 @@ use Rattle.element.specs.declared.Bit.the-variants.{Zero, One}
 use Rattle.element.specs.declared.Form.{Form}
 use Rattle.element.specs.Bits.{bit-plus, bit-laws}
 use Rattle.element.specs.Forms.{form-zero, form-plus}
-use Rattle.erasure.specs.Unknowns.{member, both, dot, value, pivot, Solves, Reduced, Cleared, added}
+use Rattle.erasure.specs.Unknowns.{member, value, pivot, Solves, Reduced, Cleared, added}
 use Rattle.erasure.proofs.Sets.{member-xor, member-zero}
 use Rattle.qc.proofs.Sums.{right}
 use Rattle.erasure.proofs.Values.{apart, value-plus, value-zero}

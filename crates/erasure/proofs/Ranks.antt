@@ -1,8 +1,7 @@
 -- How many marks before a place are erased.
-use mathlib.Core.Path.{_≡_, refl, sym, ap, ap₂, subst, _∙_}
+use mathlib.Core.Path.{_≡_, sym, ap, subst, _∙_}
 use mathlib.Core.Logic.{_≢_, _⊎_, inl, inr}
 use mathlib.Core.List.{List}
-use mathlib.Core.Bool.{Bool, true, false, cond}
 use Prim.Native.Nat.{ℕ, zero, suc, _+_, _-_, _<_, _≤_}
 use native.Mathlib.Numerals.{add-one}
 use native.Mathlib.Omega.{arith}
@@ -38,14 +37,6 @@ rank-le ms i n h = let d : i + (n - i) ≡ n = omega arith in omega (arith, rank
 pub rank-lt : (ms : List Mark) (i n : ℕ) → i < n → mark-at ms i ≡ Erased → rank ms i < rank ms n
 rank-lt ms i n h e = omega (arith, rank-erased ms i e, rank-le ms (i + 1) n (omega arith))
 
--- a loop that writes place by place
-module _ {A : Type 0} (xs : List A) (d : A) (i : ℕ) (v : A) where
-  pub written-more : (f : ℕ → A) → i < length xs → ((k : ℕ) → k < i → getD xs k d ≡ f k) → v ≡ f i → (k : ℕ) → k < i + 1 → getD (set xs i v) k d ≡ f k
-  written-more f hi h e = below-more _ i (λ k l. getD-set-other xs i k v d (omega arith) ∙ h k l) (getD-set-same xs i v d hi ∙ e)
-
-  pub kept-more : (g : ℕ → A) → ((k : ℕ) → i ≤ k → getD xs k d ≡ g k) → (k : ℕ) → i + 1 ≤ k → getD (set xs i v) k d ≡ g k
-  kept-more g h k l = getD-set-other xs i k v d (omega arith) ∙ h k (omega arith)
-
 -- places listed so far
 module _ (P : ℕ → Type 0) (i n : ℕ) (ws vs : List ℕ) (so : Places P i n ws vs) where
   pub places-same : (P i → ⊥) → Places P (i + 1) n ws vs
@@ -75,6 +66,3 @@ module _ (P : ℕ → Type 0) (i n : ℕ) (ws vs : List ℕ) (so : Places P i n 
       go : (q r : ℕ) → q < r → r < n + 1 → ((r ≡ n) ⊎ (r ≢ n)) → getD (set vs n i) q 0 < getD (set vs n i) r 0
       go q r h l (inl e) = omega (arith, old q (omega arith), so .sound q (omega arith) .0, ap (λ r. getD (set vs n i) r 0) e, new)
       go q r h l (inr ne) = omega (arith, old q (omega arith), old r (omega arith), so .rising q r h (omega arith))
-
-pub places-none : (P : ℕ → Type 0) (ws : List ℕ) → Places P 0 0 ws ws
-places-none P ws = record { sound = λ q h. absurd (omega arith); rising = λ q r h l. absurd (omega arith); all = λ i h. absurd (omega arith); rest = λ q h. refl }

@@ -1,9 +1,9 @@
 -- The verdict from the rows.
-use mathlib.Core.Path.{_≡_, refl, sym, ap, ap₂, subst, _∙_}
+use mathlib.Core.Path.{_≡_, refl, sym, ap, _∙_}
 use mathlib.Core.Logic.{_≢_}
 use mathlib.Core.List.{List}
-use mathlib.Core.Bool.{Bool, true, false}
-use Prim.Native.Nat.{ℕ, zero, suc, _+_, _^_, _<_, _≤_}
+use mathlib.Core.Bool.{true, false}
+use Prim.Native.Nat.{ℕ, zero, suc, _+_, _^_, _<_}
 use native.Mathlib.Omega.{arith}
 use borrow.Author.Count.{below-more}
 use lib.ListN.{length, getD, set, length-set, replicate}
@@ -12,11 +12,11 @@ use Rattle.std.proofs.shelf.Lists.{getD-set-same, getD-set-other}
 use Rattle.element.specs.declared.Bit.{Bit}
 use Rattle.element.specs.declared.Bit.the-variants.{Zero, One}
 use Rattle.element.specs.declared.Form.{Form}
-use Rattle.element.specs.Bits.{bit-plus, bit-laws}
+use Rattle.element.specs.Bits.{bit-plus}
 use Rattle.element.specs.Forms.{form-zero}
 use Rattle.erasure.specs.declared.solutions.Solutions.{Solutions}
 use Rattle.erasure.specs.declared.solutions.Solutions.the-variants.{Absent, Single, Several}
-use Rattle.erasure.specs.Unknowns.{member, both, dot, value, pivot, Solves, Reduced}
+use Rattle.erasure.specs.Unknowns.{member, both, value, pivot, Solves, Reduced}
 use Rattle.erasure.specs.Solutions.{Only, Many, Means, Tells, Sorted}
 use Rattle.erasure.specs.Demands.{Same}
 use Rattle.erasure.proofs.Sets.{either-of, member-or, member-own, member-other, member-zero}

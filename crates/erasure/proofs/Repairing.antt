@@ -1,18 +1,17 @@
 -- A reduced table has solutions, and what they are at each unknown.
-use mathlib.Core.Path.{_≡_, refl, sym, ap, ap₂, subst, _∙_}
-use mathlib.Core.Logic.{_≢_, _⊎_, inl, inr, ⊎-elim}
+use mathlib.Core.Path.{_≡_, refl, sym, ap, ap₂, _∙_}
+use mathlib.Core.Logic.{_≢_, _⊎_, inl, inr}
 use mathlib.Core.List.{List}
-use mathlib.Core.Bool.{Bool, true, false}
-use Prim.Native.Nat.{ℕ, zero, suc, _+_, _^_, _<_, _≤_}
+use Prim.Native.Nat.{ℕ, zero, suc, _^_, _<_}
 use native.Mathlib.Omega.{arith}
 use Rattle.std.proofs.shelf.Tests.{cases-eq}
 use Rattle.element.specs.declared.Bit.{Bit}
 use Rattle.element.specs.declared.Bit.the-variants.{Zero, One}
 use Rattle.element.specs.declared.Form.{Form}
 use Rattle.element.specs.Bits.{bit-plus, bit-laws}
-use Rattle.element.specs.Forms.{form-zero, form-plus}
+use Rattle.element.specs.Forms.{form-zero}
 use Rattle.erasure.specs.Unknowns.{member, both, dot, value, pivot, Solves, Reduced}
-use Rattle.erasure.proofs.Sets.{member-zero, member-xor, member-own, member-other, member-turned}
+use Rattle.erasure.proofs.Sets.{member-xor, member-own, member-other, member-turned}
 use Rattle.erasure.specs.Solutions.{Differ, Settled}
 use lib.Bits.{bitXor}
 use Rattle.qc.proofs.Sums.{right, equal}

@@ -1,12 +1,12 @@
 -- Sets of unknowns, stored as numbers.
 use mathlib.Core.Logic.{_≢_, _⊎_, inl, inr}
 use Rattle.std.proofs.shelf.Tests.{cases-eq, cases-lt}
-use mathlib.Core.Path.{_≡_, refl, sym, ap, ap₂, _∙_}
+use mathlib.Core.Path.{_≡_, refl, sym, ap, _∙_}
 use Prim.Native.Nat.{ℕ, zero, suc, _+_, _-_, _*_, _/_, _%_, _^_, _<_, _≤_}
-use native.Mathlib.Nat.{mod-lt, zero-div, one-mul, div-eq-of-lt}
+use native.Mathlib.Nat.{zero-div, one-mul, div-eq-of-lt}
 use native.Mathlib.Omega.{arith}
 use lib.Bits.{bitXor, bitOr, xor-shr, xor-mod, or-shr, or-mod}
-use lib.Pow.{pow-pos, pow-lt, pow-add, shl-shr}
+use lib.Pow.{pow-lt, pow-add, shl-shr}
 use Rattle.element.specs.declared.Bit.{Bit}
 use Rattle.element.specs.declared.Bit.the-variants.{Zero, One}
 use Rattle.element.specs.Bits.{bit-plus}

@@ -1,11 +1,10 @@
 -- Rows of a block taken in a segment at a time.
 use mathlib.Core.Path.{_≡_, sym, ap, subst, _∙_}
-use mathlib.Core.Bool.{Bool, true, cond}
+use mathlib.Core.Bool.{Bool, cond}
 use mathlib.Core.List.{List}
 use Prim.Native.Nat.{ℕ, _+_, _-_, _*_, _<_, _≤_}
 use native.Mathlib.Decide.{decLt}
 use native.Mathlib.Omega.{arith}
-use lib.Dec.{eqb, leb, ltb}
 use lib.ListN.{length, getD}
 use Rattle.std.proofs.shelf.Counted.{length-map-counting, getD-map-counting}
 use Rattle.std.proofs.shelf.Tests.{and-from, le-leb, eq-eqb, lt-ltb}
@@ -18,7 +17,7 @@ use Rattle.qc.specs.Codeblock.{row, groups}
 use Rattle.qc.specs.SegmentRows.{rows-there, segment-rows}
 use Rattle.qc.proofs.Rows.{next-segment}
 use Rattle.erasure.specs.Unknowns.{value, Solves}
-use Rattle.erasure.specs.Demands.{Same, Adds, Zeros, RowsZero}
+use Rattle.erasure.specs.Demands.{Same, Zeros, RowsZero}
 use Rattle.erasure.proofs.Inserting.{adds-more}
 
 module _ (u : ℕ) (c : Shape) (run : List Form) (n : ℕ) where

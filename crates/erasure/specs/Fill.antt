@@ -8,11 +8,11 @@ use lib.Dec.{eqb, leb}
 use lib.ListN.{getD, length, drop}
 use Rattle.element.specs.declared.Bit.{Bit}
 use Rattle.element.specs.declared.Form.{Form}
-use Rattle.refusal.specs.Outcome.{Numbered, Outcome, Outcome.done, Outcome.refused}
+use Rattle.refusal.specs.Outcome.{Outcome, Outcome.done, Outcome.refused}
 use Rattle.qc.specs.Shape.{Shape, sent, whole}
 use Rattle.erasure.specs.declared.marks.Mark.{Mark}
 use Rattle.erasure.specs.Marks.{known, erasures, written}
-use Rattle.erasure.specs.Fits.{Fits, NoneFits, OnlyFits, OneFits, TwoFit, Open}
+use Rattle.erasure.specs.Fits.{NoneFits, OnlyFits, OneFits, TwoFit, Open}
 
 abbrev pub Answer : Type 0
 Answer = Outcome (Unit {0})

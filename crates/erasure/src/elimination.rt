@@ -2,8 +2,7 @@
 // pivot rows: row p is the zero form, or has the unknown p and no other that has a pivot row.
 ghost use mathlib.Core.Path.{_≡_};
 ghost use mathlib.Core.Bool.{true, false};
-ghost use Prim.Native.Nat.{ℕ, _^_, _<_, _≤_};
-ghost use lib.ListN.{length};
+ghost use Prim.Native.Nat.{ℕ, _<_, _≤_};
 ghost use Rattle.element.specs.declared.Bit.the-variants.{Zero, One};
 ghost use Rattle.erasure.specs.Unknowns.{member, pivot, Reduced, Cleared, added, Found};
 ghost use Rattle.erasure.specs.Demands.{Inserted, Demanded};

@@ -39,6 +39,7 @@ pub fn fill(code: Code, marks: &mut [Mark], forms: &mut [Form], places: &mut [us
         return Err(FillFault::TooManyErased);
     }
     write_forms(marks, forms);
+    // The check writes the punctured group; its verdict on forms says nothing yet.
     let _ = qc::check(code, forms);
     match solve(code, forms, erased) {
         Solutions::Absent => Err(FillFault::NoneFits),

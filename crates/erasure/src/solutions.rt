@@ -1,6 +1,6 @@
 // What a table of pivot rows leaves to its unknowns.
 ghost use mathlib.Core.Path.{_≡_};
-ghost use Prim.Native.Nat.{ℕ, _^_, _<_, _≤_};
+ghost use Prim.Native.Nat.{_^_, _<_, _≤_};
 ghost use Rattle.erasure.specs.Unknowns.{pivot, Solves, Reduced};
 ghost use Rattle.erasure.specs.Solutions.{Tells, Means};
 use crate::elimination::lowest_unknown;

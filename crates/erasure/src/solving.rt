@@ -31,6 +31,7 @@ fn insert_rows(code: Code, run: &[Form], pivots: &mut [Form; 64], u: usize, rows
     ensures demanded { λ r. ⌜ Adds u (now (pivots .entry)) (RowsZero u (shape-of code) (now (run .entry)) (2 * M (shape-of code))) (now (pivots .exit)) r ⌝ }
 {
     for n in 0..8 {
+        // The lengths are right, so the rows are always there.
         let _ = qc::rows_of_segment(code, run, n, rows);
         if !insert_all(pivots, u, rows) {
             return false;

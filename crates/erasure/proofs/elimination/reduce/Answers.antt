@@ -1,10 +1,8 @@
-use mathlib.Core.Path.{sym, ap, subst, _∙_}
-use Rattle.element.specs.Forms.{form-plus}
+use mathlib.Core.Path.{sym, subst, _∙_}
 use Rattle.erasure.specs.Unknowns.{Cleared}
 use Rattle.erasure.proofs.elimination.reduce.Needs as need
 use Rattle.erasure.proofs.elimination.reduce.Needs.{then-holds, else-holds}
 use Rattle.erasure.proofs.Pivoting.{none-cleared, cleared-kept, cleared-more}
-use borrow.Author.Needs.{needs}
 
 pub loop-p-holds : need.loop-p-holds
 loop-p-holds c = none-cleared _ _ _

@@ -1,6 +1,5 @@
 use mathlib.Core.Path.{_≡_}
 use Prim.Native.Nat.{ℕ, _<_, _≤_}
-use lib.ListN.{length}
 use Rattle.erasure.specs.Unknowns.{member, pivot, added}
 use Rattle.erasure.proofs.elimination.substitute.Given as given
 

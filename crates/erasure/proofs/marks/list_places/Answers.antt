@@ -1,15 +1,13 @@
 use mathlib.Core.Path.{_≡_, sym, ap, subst, _∙_}
-use mathlib.Core.Bool.{Bool}
 use mathlib.Core.List.{List}
-use Prim.Native.Nat.{ℕ, _+_, _<_, _≤_}
+use Prim.Native.Nat.{ℕ, _+_, _<_}
 use native.Mathlib.Omega.{arith}
-use lib.ListN.{length, getD, set}
+use lib.ListN.{length}
 use Rattle.element.specs.declared.Bit.the-variants.{One}
-use Rattle.erasure.specs.declared.marks.Mark.the-variants.{Erased}
 use Rattle.erasure.specs.Unknowns.{member}
-use Rattle.erasure.specs.Marks.{mark-at, gap, rank, Marked, Told}
+use Rattle.erasure.specs.Marks.{mark-at, gap, rank, Marked}
 use Rattle.erasure.specs.Places.{Places}
-use Rattle.erasure.proofs.Ranks.{rank-step, rank-lt, rank-le, places-none, places-same, places-more}
+use Rattle.erasure.proofs.Ranks.{rank-step, rank-lt, rank-le, places-same, places-more}
 use Rattle.erasure.proofs.marks.list_places.Needs as need
 use Rattle.erasure.proofs.marks.list_places.Needs.{then-in-set, else-in-set}
 

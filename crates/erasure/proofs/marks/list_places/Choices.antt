@@ -1,6 +1,6 @@
 use mathlib.Core.Path.{_≡_}
-use Prim.Native.Nat.{ℕ, _<_, _≤_}
-use Rattle.erasure.specs.Marks.{mark-at, rank, Marked}
+use Prim.Native.Nat.{_≤_}
+use Rattle.erasure.specs.Marks.{rank, Marked}
 use Rattle.erasure.specs.Places.{Places}
 use Rattle.erasure.proofs.marks.list_places.Given as given
 

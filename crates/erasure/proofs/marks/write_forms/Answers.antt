@@ -1,11 +1,11 @@
 use mathlib.Core.Path.{_≡_, sym, ap, _∙_}
 use Prim.Native.Nat.{ℕ, _+_, _<_}
 use native.Mathlib.Omega.{arith}
-use lib.ListN.{length, getD}
-use Rattle.element.specs.Forms.{form-zero}
-use Rattle.erasure.specs.Marks.{mark-at, gap, rank, form-of, form-at}
+use lib.ListN.{length}
+use Rattle.qc.proofs.Written.{written-more}
+use Rattle.erasure.specs.Marks.{mark-at, gap, form-of}
 use Rattle.erasure.proofs.Laying.{laid-made}
-use Rattle.erasure.proofs.Ranks.{rank-step, rank-lt, rank-le, written-more, kept-more}
+use Rattle.erasure.proofs.Ranks.{rank-step, rank-lt, rank-le}
 use Rattle.erasure.proofs.marks.write_forms.Needs as need
 
 pub form-of-requires : need.form-of-requires
@@ -20,11 +20,10 @@ loop-i-again c =
     let i = c .loop-i .i in
     let room : i < length (c .loop-i .forms) = omega (arith, c .pre .room, c .loop-i .kept .forms) in
     (c .next-unknown-k .ensures ∙ ap (λ (j : ℕ). j + gap (mark-at ms i)) (c .loop-i .inv .0) ∙ sym (rank-step ms i),
-     written-more (c .loop-i .forms) form-zero i (c .form-of .result) (form-at ms) room (c .loop-i .inv .1) (c .form-of .ensures ∙ ap (form-of (mark-at ms i)) (c .loop-i .inv .0)),
-     kept-more (c .loop-i .forms) form-zero i (c .form-of .result) _ (c .loop-i .inv .2))
+     written-more (c .loop-i .forms) i (c .form-of .result) (c .loop-i .inv .1) (omega arith) room (c .form-of .ensures ∙ ap (form-of (mark-at ms i)) (c .loop-i .inv .0)))
 
 pub returns : need.returns
 returns c =
     let done : c .loop-i .i ≡ length (c .args .marks .now) = omega arith in
     laid-made (c .args .marks .now) (c .args .forms .now) (c .pre .room) (c .loop-i .forms) (c .loop-i .kept .forms)
-      (λ i h. c .loop-i .inv .1 i (omega arith)) (λ i h. c .loop-i .inv .2 i (omega arith))
+      (λ i h. c .loop-i .inv .1 .made i (omega arith) (omega arith)) (λ i h. c .loop-i .inv .1 .after i (omega arith))

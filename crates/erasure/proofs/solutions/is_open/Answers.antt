@@ -1,5 +1,5 @@
-use mathlib.Core.Path.{_≡_, sym, ap, subst, _∙_}
-use Prim.Native.Nat.{ℕ, _<_, _^_}
+use mathlib.Core.Path.{_≡_, subst}
+use Prim.Native.Nat.{ℕ}
 use lib.Bits.{bitXor}
 use Rattle.element.specs.declared.Bit.the-variants.{Zero, One}
 use Rattle.erasure.specs.Unknowns.{pivot, member}

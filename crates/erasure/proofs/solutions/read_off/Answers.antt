@@ -1,10 +1,9 @@
 use mathlib.Core.Path.{_≡_, refl, sym, ap, subst, _∙_}
 use mathlib.Core.Bool.{Bool}
-use Prim.Native.Nat.{ℕ, _<_, _^_, _+_}
+use Prim.Native.Nat.{ℕ, _<_, _+_}
 use native.Mathlib.Omega.{arith}
 use lib.ListN.{length, set}
 use lib.Bits.{bitOr}
-use borrow.Author.Needs.{needs}
 use Rattle.erasure.specs.Unknowns.{pivot, Solves}
 use Rattle.erasure.specs.Solutions.{Sorted, Tells}
 use Rattle.erasure.proofs.Reading.{none-sorted, sorted-closed, sorted-open, several, unique}

@@ -1,14 +1,11 @@
-use mathlib.Core.Path.{_≡_, sym, _∙_}
 use mathlib.Core.List.{List}
-use Prim.Native.Nat.{ℕ, _*_, _≤_}
 use borrow.Author.Needs.{needs}
 use native.Mathlib.Omega.{arith}
-use lib.ListN.{length, replicate}
+use lib.ListN.{replicate}
 use Rattle.element.specs.declared.Form.{Form}
 use Rattle.element.specs.Forms.{form-zero}
 use Rattle.qc.proofs.Soundness.{sounds}
-use Rattle.ar4ja.specs.Codes.{shape-of, shapes-sound}
-use Rattle.erasure.specs.Unknowns.{Solves}
+use Rattle.ar4ja.specs.Codes.{shapes-sound}
 use Rattle.erasure.proofs.Reading.{all-blank, blank-reduced, blank-solved, means-same}
 use Rattle.erasure.proofs.solving.solve.Needs as need
 
