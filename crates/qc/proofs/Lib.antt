@@ -23,3 +23,5 @@ pub mod CodingLaws
 pub mod SegmentWrites
 pub mod ByTable
 pub mod ByRows
+pub mod RowSegments
+pub mod Mapped

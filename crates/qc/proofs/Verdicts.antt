@@ -35,7 +35,7 @@ row-at none plus c x k i h = ap₂ (λ n p. value plus c (block-row c n) x p) (d
 
 module _ {E : Type 0} {none : E} {plus : E → E → E} {same : E → E → Bool} (laws : Laws none plus same) (c : Shape) (ok : Sound c) where
   -- blocks that agree in every group have the same rows
-  row-same : (x y : ℕ → ℕ → E) → ((g i : ℕ) → g < c .K + 3 → i < M c → x g i ≡ y g i) → (r : ℕ) → row none plus c x r ≡ row none plus c y r
+  pub row-same : (x y : ℕ → ℕ → E) → ((g i : ℕ) → g < c .K + 3 → i < M c → x g i ≡ y g i) → (r : ℕ) → row none plus c x r ≡ row none plus c y r
   row-same x y agree r = go (r / M c) (r % M c) (mod-lt r (omega (arith, ok .some-long)))
     where
       go : (k i : ℕ) → i < M c → value plus c (block-row c k) x i ≡ value plus c (block-row c k) y i

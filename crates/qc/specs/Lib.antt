@@ -11,3 +11,5 @@ pub mod Coding
 pub mod Product
 pub mod Rules
 pub mod Check
+pub mod SegmentRows
+pub mod Keeps

@@ -1,6 +1,7 @@
 // Quasi-cyclic codes with punctured bits, over any element kind and any segment length: permutations,
 // block equations, and the check of a block. It knows the numbers of no code.
 mod answers;
+mod check_rows;
 mod circulant;
 mod coders;
 mod kernel;
@@ -15,6 +16,7 @@ pub use answers::RunFaultRefusal;
 pub use answers::Verdict;
 pub use answers::VerdictDebug;
 pub use answers::VerdictPartialEq;
+pub use check_rows::rows_of_segment;
 pub use coders::CheckCoder;
 pub use coders::CheckCoderCoder;
 pub use coders::Coder;

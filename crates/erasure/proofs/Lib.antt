@@ -1,0 +1,14 @@
+pub mod Sets
+pub mod Values
+pub mod Pivoting
+pub mod Repairing
+pub mod Inserting
+pub mod Reading
+pub mod Ranks
+pub mod Laying
+pub mod Assignments
+pub mod Fitting
+pub mod Solved
+pub mod Exact
+pub mod Left
+pub mod Outcomes
