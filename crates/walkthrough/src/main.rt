@@ -4,6 +4,16 @@ use ar4ja::CodeQuasiCyclic;
 use element::Bit;
 use element::BitElement;
 use element::BitPartialEq;
+use element::Form;
+use erasure::fill;
+use erasure::FillFaultRefusal;
+use erasure::Mark;
+use erasure::MarkPartialEq;
+use frame::marker_bit;
+use frame::read;
+use frame::Orientation;
+use frame::ReadFault;
+use frame::ReadFaultRefusal;
 use outlet::Inverter;
 use outlet::InverterOutlet;
 use outlet::Outlet;
@@ -17,6 +27,7 @@ use qc::Coder;
 use qc::TableCoder;
 use qc::TableCoderCoder;
 use qc::Verdict;
+use refusal::Refusal;
 use std::alloc::AllocError;
 use std::alloc::Global;
 use std::error::AnyError;
@@ -93,11 +104,17 @@ fn tell(rt: &impl Print, code: Code, block: &mut [Bit]) -> Result<(), AnyError> 
     Ok(())
 }
 
-fn check_printed_codeblock(rt: &LibcRuntime) -> Result<(), AnyError> {
-    let code = Code::FourFifths1024;
-    let mut block = empty_block(rt.alloc(), code)?;
+// The codeblock of rate 4/5 whose parity the standard prints.
+fn printed_codeblock(heap: Global) -> Result<Vec<Bit>, AllocError> {
+    let mut block = empty_block(heap, Code::FourFifths1024)?;
     set_bit(&mut block, 992);
     write_words(&mut block, 1024, &PRINTED_PARITY);
+    Ok(block)
+}
+
+fn check_printed_codeblock(rt: &LibcRuntime) -> Result<(), AnyError> {
+    let code = Code::FourFifths1024;
+    let mut block = printed_codeblock(rt.alloc())?;
     let sent = code.block_len();
     println!(
         rt,
@@ -177,10 +194,98 @@ fn show_pile(rt: &LibcRuntime) -> Result<(), AnyError> {
     Ok(())
 }
 
+// A packed outlet with the frame of a block: the marker, then the block through a randomizer.
+fn framed(heap: Global, code: Code, block: &[Bit]) -> Result<Packed, AllocError> {
+    let bytes = vec![in heap; 0u8; code.frame_len() / 8]?;
+    let mut layer = Randomizer::over(Packed::empty(bytes), code);
+    for i in 0..64 {
+        let _ = layer.take(marker_bit(i));
+    }
+    for b in block.iter().take(code.block_len()) {
+        let _ = layer.take(*b);
+    }
+    Ok(layer.into_below())
+}
+
+// Reads the frame at the first place of an outlet.
+fn tell_reading<O: Outlet>(rt: &LibcRuntime, outlet: &O, code: Code) -> Result<(), AnyError> {
+    let mut message = [0u8; 128];
+    let mut run = empty_block(rt.alloc(), code)?;
+    match read(outlet, 0, code, 0, &mut message[..], &mut run) {
+        Ok((orientation, distance)) => {
+            let way = match orientation {
+                Orientation::Upright => "upright",
+                Orientation::Complemented => "complemented",
+            };
+            println!(
+                rt,
+                "  read {way}, the marker {distance} bits off; byte 124 of the message is {:02X}.",
+                message[124]
+            )?
+        }
+        Err(ReadFault::Fails(row)) => println!(rt, "  refused: row {row} is the lowest that is not zero.")?,
+        Err(fault) => println!(rt, "  refused with number {}.", fault.number())?,
+    }
+    Ok(())
+}
+
+// Reads the frame of the printed codeblock as it stands, inverted, and damaged.
+fn read_frames(rt: &LibcRuntime) -> Result<(), AnyError> {
+    let code = Code::FourFifths1024;
+    let mut block = printed_codeblock(rt.alloc())?;
+    println!(rt, "The frame of the first codeblock in a packed outlet:")?;
+    let frame = framed(rt.alloc(), code, &block)?;
+    tell_reading(rt, &frame, code)?;
+    println!(rt, "The same frame through an inverter:")?;
+    tell_reading(rt, &Inverter::over(frame), code)?;
+    println!(rt, "The frame of the same block with its bit 1000 damaged:")?;
+    set_bit(&mut block, 1000);
+    tell_reading(rt, &framed(rt.alloc(), code, &block)?, code)
+}
+
+fn marks_of(heap: Global, block: &[Bit], count: usize) -> Result<Vec<Mark>, AllocError> {
+    let mut marks = Vec::new(heap);
+    for b in block.iter().take(count) {
+        match b {
+            Bit::Zero => marks.push(Mark::Zero)?,
+            Bit::One => marks.push(Mark::One)?,
+        }
+    }
+    Ok(marks)
+}
+
+// Erases 64 symbols of the printed codeblock, and fills them again.
+fn fill_erased(rt: &LibcRuntime) -> Result<(), AnyError> {
+    let code = Code::FourFifths1024;
+    let block = printed_codeblock(rt.alloc())?;
+    let sent = marks_of(rt.alloc(), &block, code.block_len())?;
+    let mut marks = marks_of(rt.alloc(), &block, code.block_len())?;
+    for i in 960..1024 {
+        if i < marks.len() {
+            marks[i] = Mark::Erased;
+        }
+    }
+    let empty = Form {
+        bit: Bit::Zero,
+        unknowns: 0,
+    };
+    let mut forms = vec![in rt.alloc(); empty; code.whole_len()]?;
+    let mut places = [0usize; 64];
+    println!(rt, "The first codeblock with its bits 960 to 1023 erased:")?;
+    match fill(code, &mut marks, &mut forms, &mut places[..]) {
+        Ok(()) if marks == sent => println!(rt, "  filled: one codeblock fits, the one that was sent.")?,
+        Ok(()) => println!(rt, "  filled with ANOTHER codeblock.")?,
+        Err(fault) => println!(rt, "  refused with number {}.", fault.number())?,
+    }
+    Ok(())
+}
+
 fn run(rt: &LibcRuntime) -> Result<(), AnyError> {
     check_printed_codeblock(rt)?;
     code_both_ways(rt)?;
-    show_pile(rt)
+    show_pile(rt)?;
+    read_frames(rt)?;
+    fill_erased(rt)
 }
 
 fn main(rt: LibcRuntime) -> Result<(), AnyError> {
