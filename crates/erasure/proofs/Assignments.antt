@@ -53,6 +53,7 @@ unknown-at ms (suc n) k h = go (decLt k (rank ms n)) (λ l. unknown-at ms n k l)
     there mark.Zero e l = absurd (omega (arith, ap gap e))
     there mark.One e l = absurd (omega (arith, ap gap e))
     there Erased e l = e
+
     go : Dec (k < rank ms n) → (k < rank ms n → (i : ℕ) × ((i < n) × ((mark-at ms i ≡ Erased) × (rank ms i ≡ k)))) → (i : ℕ) × ((i < suc n) × ((mark-at ms i ≡ Erased) × (rank ms i ≡ k)))
     go (yes l) less = let a = less l in (a .0, (omega (arith, a .1 .0), a .1 .1))
     go (no l) less = let e = there (mark-at ms n) refl (omega arith) in (n, (omega arith, (e, omega (arith, ap gap e))))

@@ -117,14 +117,14 @@ module _ (c : Shape) (ok : Sound c) (ms : List Mark) (size : length ms ≡ sent 
           fits = fits-under given (one .fits given (λ k h. refl));
           only = λ b f. sym (back-same b f) ∙ ext-getD Zero (block (back b)) (block given) (block-length (back b) ∙ sym (block-length given))
               (λ i h. let l : i < length ms = omega (arith, block-length (back b)) in
-                block-at (back b) i l ∙ value-ext u (back b) given (form-at ms i) (one .only (back b) (rows-back b f)) ∙ sym (block-at given i l));
+              block-at (back b) i l ∙ value-ext u (back b) given (form-at ms i) (one .only (back b) (rows-back b f)) ∙ sym (block-at given i l));
         }
 
     pub filled-known : (vs : List Mark) → length vs ≡ length ms → ((i : ℕ) → i < length ms → mark-at vs i ≡ filled-of (mark-at ms i) (getD bits (rank ms i) Zero)) → vs ≡ map known (block given)
     filled-known vs same made =
         ext-getD mark.Zero vs (map known (block given)) (same ∙ sym (length-map (block given) known ∙ block-length given))
         (λ i h. let l : i < length ms = omega arith in
-          made i l ∙ go i l (mark-at ms i) refl ∙ sym (getD-map known (block given) i Zero mark.Zero (omega (arith, block-length given))))
+        made i l ∙ go i l (mark-at ms i) refl ∙ sym (getD-map known (block given) i Zero mark.Zero (omega (arith, block-length given))))
       where
         go : (i : ℕ) → i < length ms → (m : Mark) → mark-at ms i ≡ m → filled-of m (getD bits (rank ms i) Zero) ≡ known (getD (block given) i Zero)
         go i h mark.Zero e = ap known (sym (block-known given i Zero h e))
@@ -152,8 +152,8 @@ module _ (c : Shape) (ok : Sound c) (ms : List Mark) (size : length ms ≡ sent 
             side One q = q
             side Zero q =
                 absurd (ne (sym (taken-at ms (λ i. getD b i Zero) (length ms) i h e)
-                  ∙ many .outside (rank ms i) (rank-lt ms i (length ms) h e) q (back b) (back other) (rows-back b f) (rows-back other g)
-                  ∙ taken-at ms (λ i. getD other i Zero) (length ms) i h e))
+                ∙ many .outside (rank ms i) (rank-lt ms i (length ms) h e) q (back b) (back other) (rows-back b f) (rows-back other g)
+                ∙ taken-at ms (λ i. getD other i Zero) (length ms) i h e))
 
     -- a place that is marked
     pub some-marked : (i : ℕ) × ((i < length ms) × Marked ms set i)

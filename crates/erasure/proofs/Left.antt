@@ -20,7 +20,7 @@ module _ (c : Shape) (ms : List Mark) (xs : List Form) (ws : List ℕ) where
   pub forms-written : Fillable c ms xs ws → written c ms xs ≡ forms-after c ms xs ws
   forms-written able =
       sym (ap (λ t. cond t (written c ms xs) xs)
-        (and-from _ _ (and-from _ _ (and-from _ _ (eq-eqb _ _ (able .sized .0)) (le-leb _ _ (able .sized .1))) (le-leb _ _ (able .room))) (le-leb _ _ (able .few))))
+      (and-from _ _ (and-from _ _ (and-from _ _ (eq-eqb _ _ (able .sized .0)) (le-leb _ _ (able .sized .1))) (le-leb _ _ (able .room))) (le-leb _ _ (able .few))))
 
   -- the test says no
   able-test : fillable c ms xs ws ≡ true → Fillable c ms xs ws

@@ -48,12 +48,12 @@ pub may-fill : (c : Shape) (ms : List Mark) (xs : List Form) (ws : List ℕ) (bl
 may-fill c ms xs ws block buffer u a b d e f g h = record { sized = (a ∙ b, omega arith); room = f; few = omega arith }
 
 module _ (c : Shape) (ok : Sound c) (ms : List Mark) (xs : List Form) (ws : List ℕ) (able : Fillable c ms xs ws)
-         (u : ℕ) (count : u ≡ erasures ms) (ls ys : List Form) (put : ls ≡ laid ms xs) (checked : ys ≡ checked-run form-zero form-plus c ls) where
+    (u : ℕ) (count : u ≡ erasures ms) (ls ys : List Form) (put : ls ≡ laid ms xs) (checked : ys ≡ checked-run form-zero form-plus c ls) where
   is-written : ys ≡ written c ms xs
   is-written =
       checked ∙ ap (checked-run form-zero form-plus c) put
       ∙ ap (λ t. cond t (laid ms xs) (completed form-zero form-plus c (laid ms xs)))
-        (le-ltb (length (laid ms xs)) (whole c) (omega (arith, able .sized .1, laid-length ms xs (room c ok ms (able .sized .0) xs (able .sized .1)))))
+      (le-ltb (length (laid ms xs)) (whole c) (omega (arith, able .sized .1, laid-length ms xs (room c ok ms (able .sized .0) xs (able .sized .1)))))
 
   -- what the rows leave, said of the marks
   moved : (v : Solutions) → Means u (RowsZero u c ys (2 * M c)) v → Means (erasures ms) (RowsZero (erasures ms) c (written c ms xs) (2 * M c)) v

@@ -34,8 +34,8 @@ module _ (u : ℕ) (t : List Form) (red : Reduced u t) (f g : Form) (p : ℕ) (h
       record {
         same = λ s z. value-plus u s g (pivot t p) ∙ ap (bit-plus (value u s g)) (z p hp) ∙ right bit-laws (value u s g) ∙ so .same s z;
         clear = below-more _ _
-          (λ q h o. ⊎-elim (so .clear q h) (red .apart p q hp (omega arith) (omega arith)) (either (member (g .unknowns) q) (member (pivot t p .unknowns) q) (sym (member-xor (g .unknowns) (pivot t p .unknowns) q) ∙ o)))
-          (λ o. red .empty p hp (flip (member (pivot t p .unknowns) p) (ap (λ b. bit-plus b (member (pivot t p .unknowns) p)) (sym e) ∙ sym (member-xor (g .unknowns) (pivot t p .unknowns) p) ∙ o)));
+            (λ q h o. ⊎-elim (so .clear q h) (red .apart p q hp (omega arith) (omega arith)) (either (member (g .unknowns) q) (member (pivot t p .unknowns) q) (sym (member-xor (g .unknowns) (pivot t p .unknowns) q) ∙ o)))
+            (λ o. red .empty p hp (flip (member (pivot t p .unknowns) p) (ap (λ b. bit-plus b (member (pivot t p .unknowns) p)) (sym e) ∙ sym (member-xor (g .unknowns) (pivot t p .unknowns) p) ∙ o)));
       }
     where
       flip : (b : Bit) → bit-plus One b ≡ One → b ≡ Zero
@@ -77,6 +77,7 @@ module _ (u : ℕ) (t : List Form) (red : Reduced u t) (f g : Form) (so : Cleare
     where
       gz : value u s g ≡ Zero
       gz = ap (value u s) (sym (pv .here)) ∙ z k hk
+
       go : ((p ≡ k) ⊎ (p ≢ k)) → value u s (pivot t p) ≡ Zero
       go (inl e) = ap (λ p. value u s (pivot t p)) e ∙ ap (value u s) (so .clear k hk o) ∙ value-zero u s
       go (inr ne) = sym (value-added u s (m p) (pivot t p) g gz) ∙ ap (value u s) (sym (pv .there p hp ne)) ∙ z p hp
@@ -89,6 +90,7 @@ module _ (u : ℕ) (t : List Form) (red : Reduced u t) (f g : Form) (so : Cleare
     where
       gz : value u s g ≡ Zero
       gz = so .same s z ∙ fz
+
       go : ((p ≡ k) ⊎ (p ≢ k)) → value u s (pivot v p) ≡ Zero
       go (inl e) = ap (λ p. value u s (pivot v p)) e ∙ ap (value u s) (pv .here) ∙ gz
       go (inr ne) = ap (value u s) (pv .there p hp ne) ∙ value-added u s (m p) (pivot t p) g gz ∙ z p hp
@@ -101,7 +103,7 @@ module _ (u : ℕ) (t : List Form) (red : Reduced u t) (f g : Form) (so : Cleare
       go (inl e) = so .clear q hq (ap (λ f. member (f .unknowns) q) (sym (ap (pivot v) e ∙ pv .here)) ∙ h)
       go (inr other) =
           ⊎-elim (red .apart p q hp hq ne) (so .clear q hq)
-            (added-has (pivot t p) g (m p) q (ap (λ f. member (f .unknowns) q) (sym (pv .there p hp other)) ∙ h))
+          (added-has (pivot t p) g (m p) q (ap (λ f. member (f .unknowns) q) (sym (pv .there p hp other)) ∙ h))
 
   pub still-reduced : Reduced u v
   still-reduced = record { apart = sep; empty = emp }
@@ -114,6 +116,7 @@ module _ (u : ℕ) (t : List Form) (red : Reduced u t) (f g : Form) (so : Cleare
               let other : p ≢ k = λ e'. ne (e' ∙ sym e) in
               absurd (apart (sym (added-out (pivot t p) g k o (m p) refl) ∙ ap (λ f. member (f .unknowns) k) (sym (pv .there p hp other)) ∙ ap (member (pivot v p .unknowns)) (sym e) ∙ h))
           go (inr other) = pv .there q hq other ∙ added-zero (pivot t q) g k (has-old p q hp hq ne h) (m q) refl
+
       emp : (p : ℕ) → p < u → member (pivot v p .unknowns) p ≡ Zero → pivot v p ≡ form-zero
       emp p hp h = go (cases-eq p k)
         where
@@ -126,6 +129,7 @@ module _ (u : ℕ) (t : List Form) (red : Reduced u t) (f g : Form) (so : Cleare
               cases Zero b ea eb h = red .empty p hp ea
               cases One Zero ea eb h = absurd (apart (sym h))
               cases One One ea eb h = so .clear p hp eb
+
           go : ((p ≡ k) ⊎ (p ≢ k)) → pivot v p ≡ form-zero
           go (inl e) = absurd (apart (sym h ∙ ap (λ p. member (pivot v p .unknowns) p) e ∙ ap (λ f. member (f .unknowns) k) (pv .here) ∙ o))
           go (inr other) =

@@ -52,8 +52,8 @@ module _ (P : ℕ → Type 0) (i n : ℕ) (ws vs : List ℕ) (so : Places P i n 
   places-more p hn =
       record {
         sound = below-more _ n
-          (λ q h. (omega (arith, old q h, so .sound q h .0), subst P (sym (old q h)) (so .sound q h .1)))
-          (omega (arith, new), subst P (sym new) p);
+            (λ q h. (omega (arith, old q h, so .sound q h .0), subst P (sym (old q h)) (so .sound q h .1)))
+            (omega (arith, new), subst P (sym new) p);
         rising = λ q r h l. go q r h l (cases-eq r n);
         all = below-more _ i (λ k h pk. let a = so .all k h pk in (a .0, (omega (arith, a .1 .0), old (a .0) (a .1 .0) ∙ a .1 .1))) (λ _. (n, (omega arith, new)));
         rest = λ q h. getD-set-other vs n q i 0 (omega arith) ∙ so .rest q (omega arith);
@@ -61,8 +61,10 @@ module _ (P : ℕ → Type 0) (i n : ℕ) (ws vs : List ℕ) (so : Places P i n 
     where
       new : getD (set vs n i) n 0 ≡ i
       new = getD-set-same vs n i 0 hn
+
       old : (q : ℕ) → q < n → getD (set vs n i) q 0 ≡ getD vs q 0
       old q h = getD-set-other vs n q i 0 (omega arith)
+
       go : (q r : ℕ) → q < r → r < n + 1 → ((r ≡ n) ⊎ (r ≢ n)) → getD (set vs n i) q 0 < getD (set vs n i) r 0
       go q r h l (inl e) = omega (arith, old q (omega arith), so .sound q (omega arith) .0, ap (λ r. getD (set vs n i) r 0) e, new)
       go q r h l (inr ne) = omega (arith, old q (omega arith), old r (omega arith), so .rising q r h (omega arith))

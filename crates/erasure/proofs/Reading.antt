@@ -29,7 +29,7 @@ module _ (u : ℕ) (t : List Form) where
       below-more _ _ (λ j h. getD-set-other bits k j (pivot t k .bit) Zero (omega arith) ∙ so .copied j h) (getD-set-same bits k (pivot t k .bit) Zero hk)
 
   pub sorted-closed : (k : ℕ) (bits : List Bit) (o : ℕ) → k < length bits → Sorted u t k bits o → Tells (Solves u t) k (pivot t k .bit) false
-    → Sorted u t (k + 1) (set bits k (pivot t k .bit)) o
+      → Sorted u t (k + 1) (set bits k (pivot t k .bit)) o
   sorted-closed k bits o hk so h =
       record {
         inside = below-more _ _ (so .inside) (λ e. absurd (apart (sym (so .rest k (omega arith)) ∙ e)));
@@ -42,17 +42,18 @@ module _ (u : ℕ) (t : List Form) where
   either-right : (b : Bit) → either-of b Zero ≡ b
   either-right Zero = refl
   either-right One = refl
+
   either-one : (b : Bit) → either-of b One ≡ One
   either-one Zero = refl
   either-one One = refl
 
   pub sorted-open : (k : ℕ) (bits : List Bit) (o : ℕ) → k < length bits → Sorted u t k bits o → Tells (Solves u t) k (pivot t k .bit) true
-    → Sorted u t (k + 1) (set bits k (pivot t k .bit)) (bitOr o (2 ^ k))
+      → Sorted u t (k + 1) (set bits k (pivot t k .bit)) (bitOr o (2 ^ k))
   sorted-open k bits o hk so h =
       record {
         inside = below-more _ _ (λ j l e. so .inside j l (sym (as-was j (omega arith)) ∙ e)) (λ e. h);
         outside = below-more _ _ (λ j l e. so .outside j l (sym (as-was j (omega arith)) ∙ e))
-          (λ e. absurd (apart (sym e ∙ member-or o (2 ^ k) k ∙ ap (either-of (member o k)) (member-own k) ∙ either-one (member o k))));
+            (λ e. absurd (apart (sym e ∙ member-or o (2 ^ k) k ∙ ap (either-of (member o k)) (member-own k) ∙ either-one (member o k))));
         rest = λ j l. as-was j (omega arith) ∙ so .rest j (omega arith);
         long = length-set bits k (pivot t k .bit) ∙ so .long;
         copied = copied-more k bits o hk so;
@@ -75,14 +76,17 @@ module _ (u : ℕ) (t : List Form) where
     where
       one : (s : ℕ → Bit) → Solves u t s → (k : ℕ) → k < u → s k ≡ getD bits k Zero
       one s z k hk = so .outside k hk (none k hk) s z ∙ sym (so .copied k hk)
+
       base : ℕ → Bit
       base = repair u t (λ _. Zero)
+
       solves : Solves u t base
       solves = repaired u t red (λ _. Zero)
+
       fit : (s : ℕ → Bit) → ((k : ℕ) → k < u → s k ≡ getD bits k Zero) → Solves u t s
       fit s agrees p hp =
           ap (bit-plus (pivot t p .bit))
-            (dot-ext u (member (pivot t p .unknowns)) (member (pivot t p .unknowns)) s base (λ k hk. ap (both (member (pivot t p .unknowns) k)) (agrees k hk ∙ sym (one base solves k hk))))
+          (dot-ext u (member (pivot t p .unknowns)) (member (pivot t p .unknowns)) s base (λ k hk. ap (both (member (pivot t p .unknowns) k)) (agrees k hk ∙ sym (one base solves k hk))))
           ∙ solves p hp
 
 pub none-sorted : (u : ℕ) (t : List Form) (bits : List Bit) → length bits ≡ 64 → Sorted u t 0 bits 0

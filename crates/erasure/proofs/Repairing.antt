@@ -43,29 +43,33 @@ module _ (u : ℕ) (t : List Form) (red : Reduced u t) (w : ℕ → Bit) where
     where
       c : ℕ → Bit
       c = member (pivot t p .unknowns)
+
       v : ℕ → Bit
       v q = value u w (pivot t q)
+
       none : pivot t p ≡ form-zero → value u (repair u t w) (pivot t p) ≡ Zero
       none e = ap (value u (repair u t w)) e ∙ value-zero u (repair u t w)
+
       others : (q : ℕ) → q < u → q ≢ p → (b : Bit) → c q ≡ b → both b (v q) ≡ Zero
       others q hq ne Zero e = refl
       others q hq ne One e = ap (value u w) (red .apart p q hp hq (λ e'. ne (sym e')) e) ∙ value-zero u w
+
       go : (b : Bit) → c p ≡ b → value u (repair u t w) (pivot t p) ≡ Zero
       go Zero e = none (red .empty p hp e)
       go One e =
           ap (bit-plus (pivot t p .bit))
-            (dot-plus-right u c w v ∙ ap (bit-plus (dot u c w)) (dot-one u c v p hp (λ q hq ne. others q hq ne (c q) refl) ∙ ap (λ b. both b (v p)) e))
+          (dot-plus-right u c w v ∙ ap (bit-plus (dot u c w)) (dot-one u c v p hp (λ q hq ne. others q hq ne (c q) refl) ∙ ap (λ b. both b (v p)) e))
           ∙ sym (bit-laws .assoc (pivot t p .bit) (dot u c w) (v p)) ∙ bit-laws .cancels (v p)
 
 -- the row of k has the unknown k and no other
 pub settled : (u : ℕ) (t : List Form) (k : ℕ) → k < u → ((q : ℕ) → q < u → member (bitXor (pivot t k .unknowns) (2 ^ k)) q ≡ Zero) → Settled (Solves u t) k (pivot t k .bit)
 settled u t k hk h s z =
     sym (equal bit-laws (pivot t k .bit) (s k)
-      (ap (bit-plus (pivot t k .bit))
-        (sym (dot-ext u (member (pivot t k .unknowns)) (member (2 ^ k)) s s
-            (λ q hq. ap (λ b. both b (s q)) (equal bit-laws (member (pivot t k .unknowns) q) (member (2 ^ k) q) (sym (member-xor (pivot t k .unknowns) (2 ^ k) q) ∙ h q hq)))
-          ∙ dot-one u (member (2 ^ k)) s k hk (λ q hq ne. ap (λ b. both b (s q)) (member-other k q ne)) ∙ ap (λ b. both b (s k)) (member-own k)))
-      ∙ z k hk))
+    (ap (bit-plus (pivot t k .bit))
+    (sym (dot-ext u (member (pivot t k .unknowns)) (member (2 ^ k)) s s
+    (λ q hq. ap (λ b. both b (s q)) (equal bit-laws (member (pivot t k .unknowns) q) (member (2 ^ k) q) (sym (member-xor (pivot t k .unknowns) (2 ^ k) q) ∙ h q hq)))
+    ∙ dot-one u (member (2 ^ k)) s k hk (λ q hq ne. ap (λ b. both b (s q)) (member-other k q ne)) ∙ ap (λ b. both b (s k)) (member-own k)))
+    ∙ z k hk))
 
 turned-bit : (m b c : Bit) → bit-plus c m ≡ One → b ≡ bit-plus m (bit-plus b c) → ⊥
 turned-bit Zero Zero Zero h e = apart h
@@ -85,16 +89,20 @@ undecided u t red k q hq h =
   where
     c : ℕ → Bit
     c = member (pivot t k .unknowns)
+
     low : repair u t (λ _. Zero) k ≡ pivot t k .bit
     low = bit-laws .neutral _ ∙ ap (bit-plus (pivot t k .bit)) (dot-none u c (λ _. Zero) (λ i hi. both-zero (c i))) ∙ right bit-laws (pivot t k .bit)
+
     both-one : (b : Bit) → both b One ≡ b
     both-one Zero = refl
     both-one One = refl
+
     high : repair u t (member (2 ^ q)) k ≡ bit-plus (member (2 ^ q) k) (bit-plus (pivot t k .bit) (c q))
     high =
         ap (λ d. bit-plus (member (2 ^ q) k) (bit-plus (pivot t k .bit) d))
-          (dot-one u c (member (2 ^ q)) q hq (λ i hi ne. ap (both (c i)) (member-other q i ne) ∙ both-zero (c i)) ∙ ap (both (c q)) (member-own q) ∙ both-one (c q))
+        (dot-one u c (member (2 ^ q)) q hq (λ i hi ne. ap (both (c i)) (member-other q i ne) ∙ both-zero (c i)) ∙ ap (both (c q)) (member-own q) ∙ both-one (c q))
+
     differ : repair u t (λ _. Zero) k ≢ repair u t (member (2 ^ q)) k
     differ e =
         turned-bit (member (2 ^ q) k) (pivot t k .bit) (c q)
-          (ap (bit-plus (c q)) (member-turned q k) ∙ sym (member-xor (pivot t k .unknowns) (2 ^ k) q) ∙ h) (sym low ∙ e ∙ high)
+        (ap (bit-plus (c q)) (member-turned q k) ∙ sym (member-xor (pivot t k .unknowns) (2 ^ k) q) ∙ h) (sym low ∙ e ∙ high)

@@ -29,7 +29,7 @@ module _ (u : ℕ) (c : Shape) (run : List Form) (n : ℕ) where
       → after ≡ cond (rows-there c (length run) n (length before)) (segment-rows form-zero form-plus c run n) before → after ≡ segment-rows form-zero form-plus c run n
   rows-are before after fits low room is =
       is ∙ ap (λ (t : Bool). cond t (segment-rows form-zero form-plus c run n) before)
-        (and-from _ _ (and-from _ _ (le-leb _ _ fits) (eq-eqb _ _ room)) (lt-ltb n 8 low))
+      (and-from _ _ (and-from _ _ (le-leb _ _ fits) (eq-eqb _ _ room)) (lt-ltb n 8 low))
 
   -- a segment of rows is zero
   module _ (rows : List Form) (is : rows ≡ segment-rows form-zero form-plus c run n) (s : ℕ → Bit) where
@@ -55,11 +55,12 @@ module _ (u : ℕ) (c : Shape) (run : List Form) (n : ℕ) where
 
     pub rows-part : RowsZero u c run ((n + 1) * c .m) s → RowsZero u c run (n * c .m) s × Zeros u rows (length rows) s
     unfolding f
-    rows-part all =
-        ((λ r h. all r (omega (arith, next-segment n (c .m)))),
-         (λ i h.
-            let low : i < c .m = omega (arith, long) in
-            ap (value u s) (at i low) ∙ all (n * c .m + i) (omega (arith, next-segment n (c .m)))))
+    rows-part all = (
+      (λ r h. all r (omega (arith, next-segment n (c .m)))),
+      (λ i h.
+          let low : i < c .m = omega (arith, long) in
+          ap (value u s) (at i low) ∙ all (n * c .m + i) (omega (arith, next-segment n (c .m)))),
+    )
 
   pub segment-more : (rows : List Form) → rows ≡ segment-rows form-zero form-plus c run n → (t v w : List Form)
       → Same (Solves u v) (λ s. Solves u t s × RowsZero u c run (n * c .m) s) → Same (Solves u w) (λ s. Solves u v s × Zeros u rows (length rows) s)

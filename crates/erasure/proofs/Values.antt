@@ -45,8 +45,8 @@ dot-none (suc n) c s h = ap₂ bit-plus (dot-none n c s (λ k l. h k (omega arit
 pub value-plus : (u : ℕ) (s : ℕ → Bit) (f g : Form) → value u s (form-plus f g) ≡ bit-plus (value u s f) (value u s g)
 value-plus u s f g =
     ap (bit-plus (bit-plus (f .bit) (g .bit)))
-      (dot-ext u _ (λ k. bit-plus (member (f .unknowns) k) (member (g .unknowns) k)) s s (λ k h. ap (λ b. both b (s k)) (member-xor (f .unknowns) (g .unknowns) k))
-      ∙ dot-plus-left u (member (f .unknowns)) (member (g .unknowns)) s)
+    (dot-ext u _ (λ k. bit-plus (member (f .unknowns) k) (member (g .unknowns) k)) s s (λ k h. ap (λ b. both b (s k)) (member-xor (f .unknowns) (g .unknowns) k))
+    ∙ dot-plus-left u (member (f .unknowns)) (member (g .unknowns)) s)
     ∙ swap bit-laws (f .bit) (g .bit) (dot u (member (f .unknowns)) s) (dot u (member (g .unknowns)) s)
 
 -- a form with no unknowns is its bit

@@ -4,8 +4,6 @@ ghost use Rattle.refusal.specs.Outcome.{outcome};
 ghost use Rattle.ar4ja.specs.Codes.{shape-of};
 ghost use Rattle.erasure.specs.Refusals.{fill-fault};
 ghost use Rattle.erasure.specs.Fill.{Answers, MarksAfter, forms-after, listed, PlacesAfter};
-use ar4ja::Code;
-use ar4ja::CodeQuasiCyclic;
 use crate::elimination::MOST_UNKNOWNS;
 use crate::faults::FillFault;
 use crate::marks::Mark;
@@ -15,6 +13,8 @@ use crate::marks::list_places;
 use crate::marks::write_forms;
 use crate::solutions::Solutions;
 use crate::solving::solve;
+use ar4ja::Code;
+use ar4ja::CodeQuasiCyclic;
 use element::Form;
 use element::FormElement;
 
@@ -22,7 +22,12 @@ use element::FormElement;
 // buffer for a whole block: it is left with the block as marked, an erased place as the form of its unknown
 // alone, and the punctured group behind it. Where several codeblocks fit, the front of `places` gets the places
 // in which some two of them differ, and the refusal says how many these are.
-pub fn fill(code: Code, marks: &mut [Mark], forms: &mut [Form], places: &mut [usize]) -> Result<(), FillFault>
+pub fn fill(
+    code: Code,
+    marks: &mut [Mark],
+    forms: &mut [Form],
+    places: &mut [usize],
+) -> Result<(), FillFault>
     ensures answer { λ r. ⌜ Answers (shape-of code) (now (marks .entry)) (now (forms .entry)) (now (places .entry)) (outcome fill-fault r) ⌝ }
     ensures marks { λ r. ⌜ MarksAfter (shape-of code) (now (marks .entry)) (now (marks .exit)) (outcome fill-fault r) ⌝ }
     ensures forms { λ _. ⌜ now (forms .exit) ≡ forms-after (shape-of code) (now (marks .entry)) (now (forms .entry)) (now (places .entry)) ⌝ }

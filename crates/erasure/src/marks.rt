@@ -49,9 +49,18 @@ fn form_of(mark: Mark, k: usize) -> Form
     ensures { λ r. ⌜ r ≡ form-of mark k ⌝ }
 {
     match mark {
-        Mark::Zero => Form { bit: Bit::Zero, unknowns: 0 },
-        Mark::One => Form { bit: Bit::One, unknowns: 0 },
-        Mark::Erased => Form { bit: Bit::Zero, unknowns: only_unknown(k) },
+        Mark::Zero => Form {
+            bit: Bit::Zero,
+            unknowns: 0,
+        },
+        Mark::One => Form {
+            bit: Bit::One,
+            unknowns: 0,
+        },
+        Mark::Erased => Form {
+            bit: Bit::Zero,
+            unknowns: only_unknown(k),
+        },
     }
 }
 

@@ -7,11 +7,11 @@ ghost use Rattle.ar4ja.specs.Codes.{shape-of};
 ghost use Rattle.erasure.specs.Unknowns.{Reduced};
 ghost use Rattle.erasure.specs.Demands.{Adds, RowsZero};
 ghost use Rattle.erasure.specs.Solutions.{Means};
-use ar4ja::Code;
-use ar4ja::CodeQuasiCyclic;
 use crate::elimination::insert_all;
 use crate::solutions::Solutions;
 use crate::solutions::read_off;
+use ar4ja::Code;
+use ar4ja::CodeQuasiCyclic;
 use element::Bit;
 use element::Form;
 use element::FormElement;
@@ -22,7 +22,13 @@ const LONGEST_SEGMENT: usize = 512;
 
 // Adds the demand that all rows of the first two block rows are zero; `rows` is room for one segment. Answers
 // false where no assignment meets them.
-fn insert_rows(code: Code, run: &[Form], pivots: &mut [Form; 64], u: usize, rows: &mut [Form]) -> bool
+fn insert_rows(
+    code: Code,
+    run: &[Form],
+    pivots: &mut [Form; 64],
+    u: usize,
+    rows: &mut [Form],
+) -> bool
     requires size { ⌜ u ≤ 64 ⌝ }
     requires there { ⌜ whole (shape-of code) ≤ length (now run) ⌝ }
     requires segment { ⌜ length (now rows) ≡ shape-of code .m ⌝ }
@@ -46,8 +52,14 @@ pub(crate) fn solve(code: Code, run: &[Form], u: usize) -> Solutions
     requires there { ⌜ whole (shape-of code) ≤ length (now run) ⌝ }
     ensures { λ r. ⌜ Means u (RowsZero u (shape-of code) (now (run .entry)) (2 * M (shape-of code))) r ⌝ }
 {
-    let mut pivots = [Form { bit: Bit::Zero, unknowns: 0 }; 64];
-    let mut scratch = [Form { bit: Bit::Zero, unknowns: 0 }; LONGEST_SEGMENT];
+    let mut pivots = [Form {
+        bit: Bit::Zero,
+        unknowns: 0,
+    }; 64];
+    let mut scratch = [Form {
+        bit: Bit::Zero,
+        unknowns: 0,
+    }; LONGEST_SEGMENT];
     let longest = &mut scratch[..];
     let rows = &mut longest[0..code.segment()];
     if !insert_rows(code, run, &mut pivots, u, rows) {

@@ -52,8 +52,16 @@ mod tests {
     }
 
     // Fills with a work buffer as long as a whole block.
-    fn fill(heap: Global, code: Code, marks: &mut [Mark], places: &mut [usize]) -> Result<Result<(), FillFault>, AllocError> {
-        let mut forms = vec![in heap; Form { bit: Bit::One, unknowns: 7 }; code.whole_len()]?;
+    fn fill(
+        heap: Global,
+        code: Code,
+        marks: &mut [Mark],
+        places: &mut [usize],
+    ) -> Result<Result<(), FillFault>, AllocError> {
+        let mut forms = vec![in heap; Form {
+            bit: Bit::One,
+            unknowns: 7
+        }; code.whole_len()]?;
         Ok(erasure::fill(code, marks, &mut forms, places))
     }
 
@@ -65,9 +73,16 @@ mod tests {
         check_eq(fill(rt.alloc(), code, &mut marks, &mut places)?, Ok(()))?;
         check(marks == codeblock(rt.alloc(), code)?)?;
         check(100 < marks.len())?;
-        marks[100] = if marks[100] == Mark::One { Mark::Zero } else { Mark::One };
+        marks[100] = if marks[100] == Mark::One {
+            Mark::Zero
+        } else {
+            Mark::One
+        };
         let damaged = marks.clone()?;
-        check_eq(fill(rt.alloc(), code, &mut marks, &mut places)?, Err(FillFault::NoneFits))?;
+        check_eq(
+            fill(rt.alloc(), code, &mut marks, &mut places)?,
+            Err(FillFault::NoneFits),
+        )?;
         check(marks == damaged)
     }
 
@@ -92,7 +107,10 @@ mod tests {
         let mut marks = codeblock(rt.alloc(), code)?;
         erase(&mut marks, 5, 19, 65);
         let before = marks.clone()?;
-        check_eq(fill(rt.alloc(), code, &mut marks, &mut places)?, Err(FillFault::TooManyErased))?;
+        check_eq(
+            fill(rt.alloc(), code, &mut marks, &mut places)?,
+            Err(FillFault::TooManyErased),
+        )?;
         check(marks == before)
     }
 
@@ -121,8 +139,14 @@ mod tests {
     fn lengths(rt: LibcRuntime) -> Result<(), Fail> {
         let code = Code::FourFifths1024;
         let mut marks = codeblock(rt.alloc(), code)?;
-        check_eq(fill(rt.alloc(), code, &mut marks, &mut [0; 63])?, Err(FillFault::ShortList))?;
+        check_eq(
+            fill(rt.alloc(), code, &mut marks, &mut [0; 63])?,
+            Err(FillFault::ShortList),
+        )?;
         marks.push(Mark::Zero)?;
-        check_eq(fill(rt.alloc(), code, &mut marks, &mut [0; 63])?, Err(FillFault::WrongLengths))
+        check_eq(
+            fill(rt.alloc(), code, &mut marks, &mut [0; 63])?,
+            Err(FillFault::WrongLengths),
+        )
     }
 }

@@ -114,5 +114,5 @@ found-marked held place tolerance way d e = elim (cases-bool (leb (distance Upri
     | inr u ↦
         let f : _≡_ {A = Option (Orientation × ℕ)} (Some (way, d)) None = e ∙ cond-false _ _ _ t ∙ cond-false _ _ _ u in
         absurd (none-some _ (sym f))
-    ]
+  ]
 ]

@@ -61,10 +61,10 @@ admitted held place code tolerance message run e = elim (cases-bool (ltb 15 tole
       | inr v ↦ elim (cases-bool (leb (place + frame-bits code) held)) [
         | inr w ↦ absurd (none-some _ (e ∙ cond-false _ _ _ t ∙ cond-true _ _ _ u ∙ cond-false _ _ _ v ∙ cond-false _ _ _ w))
         | inl w ↦ record { tolerable = ltb-false _ _ t; message-long = eqb-true _ _ u; run-long = ltb-false _ _ v; there = leb-true _ _ w }
-        ]
       ]
     ]
   ]
+]
 
 pub received-long : (way : Orientation) (held : List Bit) (place : ℕ) (code : Code) (run : List Bit) → whole (shape-of code) ≤ length run → length (received-run way held place code run) ≡ length run
 received-long way held place code run h =

@@ -49,8 +49,8 @@ abbrev pub due : ℕ → ℕ → Code → ℕ → ℕ → ℕ → Option ReadFau
 due held place code tolerance message run =
     cond (ltb 15 tolerance) (Some Tolerance)
     (cond (eqb message 128)
-      (cond (ltb run (whole (shape-of code))) (Some RunTooShort)
-      (cond (leb (place + frame-bits code) held) None (Some NotHeld)))
+    (cond (ltb run (whole (shape-of code))) (Some RunTooShort)
+    (cond (leb (place + frame-bits code) held) None (Some NotHeld)))
     (Some MessageLength))
 
 -- by the lowest row that is not zero

@@ -48,7 +48,11 @@ fn marker_distance<O: Outlet>(outlet: &O, place: usize) -> u32
 
 // Which way the bits at a place stand and how far the first 64 are from the marker, if that is within
 // the tolerance.
-pub(crate) fn find_marker<O: Outlet>(outlet: &O, place: usize, tolerance: u32) -> Option<(Orientation, u32)>
+pub(crate) fn find_marker<O: Outlet>(
+    outlet: &O,
+    place: usize,
+    tolerance: u32,
+) -> Option<(Orientation, u32)>
     requires held { ⌜ place + 64 ≤ length (bits (now outlet)) ⌝ }
     requires fits { ⌜ place + 64 < 2 ^ 64 ⌝ }
     ensures { λ r. ⌜ r ≡ found (bits (now (outlet .entry))) place tolerance ⌝ }

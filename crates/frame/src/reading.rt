@@ -20,17 +20,17 @@ ghost use Rattle.frame.specs.Reading.{received, received-run, due, read-answer
 use crate::bytes::gather;
 use crate::faults::Orientation;
 use crate::faults::ReadFault;
-use crate::marker::find_marker;
 use crate::marker::MARKER_LEN;
+use crate::marker::find_marker;
 use ar4ja::Code;
 use ar4ja::CodeQuasiCyclic;
 use element::Bit;
 use element::BitElement;
 use element::Element;
-use outlet::randomizing_bit;
 use outlet::Outlet;
-use qc::check;
+use outlet::randomizing_bit;
 use qc::Verdict;
+use qc::check;
 
 // How many bytes a message has.
 const MESSAGE_LEN: usize = 128;
@@ -39,7 +39,14 @@ const MESSAGE_LEN: usize = 128;
 const LARGEST_TOLERANCE: u32 = 15;
 
 // The first reason not to look for a frame.
-fn refusal_due(held: usize, place: usize, code: Code, tolerance: u32, message: usize, run: usize) -> Option<ReadFault>
+fn refusal_due(
+    held: usize,
+    place: usize,
+    code: Code,
+    tolerance: u32,
+    message: usize,
+    run: usize,
+) -> Option<ReadFault>
     ensures { λ r. ⌜ r ≡ due held place code tolerance message run ⌝ }
 {
     if tolerance > LARGEST_TOLERANCE {
@@ -86,14 +93,28 @@ fn fetch<O: Outlet>(outlet: &O, place: usize, turn: Bit, count: usize, run: &mut
 // differs, and the message is in the caller's buffer. The work buffer then holds the block as received,
 // upright and without the randomizing sequence, and its punctured group, also where the block does not
 // pass.
-pub fn read<O: Outlet>(outlet: &O, place: usize, code: Code, tolerance: u32, message: &mut [u8], run: &mut [Bit]) -> Result<(Orientation, u32), ReadFault>
+pub fn read<O: Outlet>(
+    outlet: &O,
+    place: usize,
+    code: Code,
+    tolerance: u32,
+    message: &mut [u8],
+    run: &mut [Bit],
+) -> Result<(Orientation, u32), ReadFault>
     ensures answer { λ r. ⌜ outcome read-fault r ≡ read-answer (bits (now (outlet .entry))) place code tolerance (length (now (message .entry))) (now (run .entry)) ⌝ }
     ensures run { λ _. ⌜ now (run .exit) ≡ read-run (bits (now (outlet .entry))) place code tolerance (length (now (message .entry))) (now (run .entry)) ⌝ }
     ensures message { λ _. ⌜ now (message .exit) ≡ read-message (bits (now (outlet .entry))) place code tolerance (now (message .entry)) (now (run .entry)) ⌝ }
     ensures accepts { λ r. ⌜ (due (length (bits (now (outlet .entry)))) place code tolerance (length (now (message .entry))) (length (now (run .entry))) ≡ None → (way : Orientation) (d : ℕ) → r ≡ Ok (way, d) ↔ (Marked (bits (now (outlet .entry))) place tolerance way d × Codeblock Zero bit-plus (shape-of code) (groups Zero (M (shape-of code)) (received-run way (bits (now (outlet .entry))) place code (now (run .entry)))))) ⌝ }
     ensures one { λ _. ⌜ (tolerance ≤ 15 → (d e : ℕ) → Marked (bits (now (outlet .entry))) place tolerance Upright d → Marked (bits (now (outlet .entry))) place tolerance Complemented e → ⊥) ⌝ }
 {
-    if let Some(fault) = refusal_due(outlet.held(), place, code, tolerance, message.len(), run.len()) {
+    if let Some(fault) = refusal_due(
+        outlet.held(),
+        place,
+        code,
+        tolerance,
+        message.len(),
+        run.len(),
+    ) {
         return Err(fault);
     }
     let Some((orientation, distance)) = find_marker(outlet, place, tolerance) else {

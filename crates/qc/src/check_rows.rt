@@ -35,7 +35,12 @@ fn row_terms<C: QuasiCyclic>(code: C, n: usize) -> &'static [Term]
 // of m elements; n is 0 to 7, since the third block row is what the punctured group is worked out from.
 // Answers false, and writes nothing, where `run` is shorter than a whole block, `rows` is not one segment or
 // n is not below 8.
-pub fn rows_of_segment<C: QuasiCyclic, E: Element>(code: C, run: &[E], n: usize, rows: &mut [E]) -> bool
+pub fn rows_of_segment<C: QuasiCyclic, E: Element>(
+    code: C,
+    run: &[E],
+    n: usize,
+    rows: &mut [E],
+) -> bool
     ensures answer { λ r. ⌜ r ≡ rows-there (shape code) (length (now (run .entry))) n (length (now (rows .entry))) ⌝ }
     ensures after { λ _. ⌜ now (rows .exit) ≡ cond (rows-there (shape code) (length (now (run .entry))) n (length (now (rows .entry)))) (segment-rows zero plus (shape code) (now (run .entry)) n) (now (rows .entry)) ⌝ }
 {

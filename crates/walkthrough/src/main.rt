@@ -5,15 +5,15 @@ use element::Bit;
 use element::BitElement;
 use element::BitPartialEq;
 use element::Form;
-use erasure::fill;
 use erasure::FillFaultRefusal;
 use erasure::Mark;
 use erasure::MarkPartialEq;
-use frame::marker_bit;
-use frame::read;
+use erasure::fill;
 use frame::Orientation;
 use frame::ReadFault;
 use frame::ReadFaultRefusal;
+use frame::marker_bit;
+use frame::read;
 use outlet::Inverter;
 use outlet::InverterOutlet;
 use outlet::Outlet;
@@ -223,7 +223,10 @@ fn tell_reading<O: Outlet>(rt: &LibcRuntime, outlet: &O, code: Code) -> Result<(
                 message[124]
             )?
         }
-        Err(ReadFault::Fails(row)) => println!(rt, "  refused: row {row} is the lowest that is not zero.")?,
+        Err(ReadFault::Fails(row)) => println!(
+            rt,
+            "  refused: row {row} is the lowest that is not zero."
+        )?,
         Err(fault) => println!(rt, "  refused with number {}.", fault.number())?,
     }
     Ok(())
@@ -273,7 +276,10 @@ fn fill_erased(rt: &LibcRuntime) -> Result<(), AnyError> {
     let mut places = [0usize; 64];
     println!(rt, "The first codeblock with its bits 960 to 1023 erased:")?;
     match fill(code, &mut marks, &mut forms, &mut places[..]) {
-        Ok(()) if marks == sent => println!(rt, "  filled: one codeblock fits, the one that was sent.")?,
+        Ok(()) if marks == sent => println!(
+            rt,
+            "  filled: one codeblock fits, the one that was sent."
+        )?,
         Ok(()) => println!(rt, "  filled with ANOTHER codeblock.")?,
         Err(fault) => println!(rt, "  refused with number {}.", fault.number())?,
     }

@@ -22,7 +22,8 @@ loop-i-again c =
     let i = c .loop-i .i in
     let bits = c .args .bits .now in
     let here : mark-at (c .loop-i .marks) i ≡ mark-at ms i = c .loop-i .inv .1 .after i (omega arith) in
-    let room : i < length (c .loop-i .marks) = omega (arith, c .loop-i .kept .marks) in
-    (c .next-unknown-k .ensures ∙ ap₂ (λ (j : ℕ) (k : Mark). j + gap k) (c .loop-i .inv .0) here ∙ sym (rank-step ms i),
-     written-more (c .loop-i .marks) i (c .fill-mark .result) (c .loop-i .inv .1) (omega arith) room
-       (c .fill-mark .ensures ∙ ap₂ (λ (j : ℕ) (k : Mark). filled-of k (getD bits j Zero)) (c .loop-i .inv .0) here))
+    let room : i < length (c .loop-i .marks) = omega (arith, c .loop-i .kept .marks) in (
+      c .next-unknown-k .ensures ∙ ap₂ (λ (j : ℕ) (k : Mark). j + gap k) (c .loop-i .inv .0) here ∙ sym (rank-step ms i),
+      written-more (c .loop-i .marks) i (c .fill-mark .result) (c .loop-i .inv .1) (omega arith) room
+          (c .fill-mark .ensures ∙ ap₂ (λ (j : ℕ) (k : Mark). filled-of k (getD bits j Zero)) (c .loop-i .inv .0) here),
+    )

@@ -39,19 +39,21 @@ loop-i-again c =
     let stepped : c .next-unknown-k .result ≡ rank ms (i + 1) = c .next-unknown-k .ensures ∙ ap (λ (j : ℕ). j + gap (mark-at ms i)) j-is ∙ sym (rank-step ms i) in
     let so = c .loop-i .inv .2 in
     elim (c .if-in-set .came) [
-      then-in-set w ↦
-        let f = w .if-in-set .ensures tt in
-        let below : c .loop-i .n < 64 = omega (arith, rank-lt ms i (length ms) (omega arith) (f .0), c .pre .few, c .loop-i .inv .0, c .loop-i .inv .1) in
-        let fits : c .loop-i .n < length (c .loop-i .places) = omega (arith, c .pre .room, c .loop-i .kept .places) in
-        (stepped,
-         omega (arith, w .n-is, c .next-unknown-k .ensures, ap gap (f .0), c .loop-i .inv .1),
-         subst (λ (n : ℕ). Places P (i + 1) n ws (c .if-in-set .places)) (sym (w .n-is))
-           (subst (λ (l : List ℕ). Places P (i + 1) (c .loop-i .n + 1) ws l) (sym (w .places-is))
-             (places-more P i (c .loop-i .n) ws (c .loop-i .places) so (f .0, subst (λ (j : ℕ). member (c .args .open) j ≡ One) j-is (f .1)) fits)))
-    | else-in-set w ↦
-        (stepped,
-         omega (arith, w .n-is, c .next-unknown-k .ensures, c .loop-i .inv .1),
-         subst (λ (n : ℕ). Places P (i + 1) n ws (c .if-in-set .places)) (sym (w .n-is))
-           (subst (λ (l : List ℕ). Places P (i + 1) (c .loop-i .n) ws l) (sym (w .places-is))
-             (places-same P i (c .loop-i .n) ws (c .loop-i .places) so (λ p. w .if-in-set .ensures tt (p .0, subst (λ (j : ℕ). member (c .args .open) j ≡ One) (sym j-is) (p .1))))))
+      | then-in-set w ↦
+          let f = w .if-in-set .ensures tt in
+          let below : c .loop-i .n < 64 = omega (arith, rank-lt ms i (length ms) (omega arith) (f .0), c .pre .few, c .loop-i .inv .0, c .loop-i .inv .1) in
+          let fits : c .loop-i .n < length (c .loop-i .places) = omega (arith, c .pre .room, c .loop-i .kept .places) in (
+            stepped,
+            omega (arith, w .n-is, c .next-unknown-k .ensures, ap gap (f .0), c .loop-i .inv .1),
+            subst (λ (n : ℕ). Places P (i + 1) n ws (c .if-in-set .places)) (sym (w .n-is))
+                (subst (λ (l : List ℕ). Places P (i + 1) (c .loop-i .n + 1) ws l) (sym (w .places-is))
+                (places-more P i (c .loop-i .n) ws (c .loop-i .places) so (f .0, subst (λ (j : ℕ). member (c .args .open) j ≡ One) j-is (f .1)) fits)),
+          )
+      | else-in-set w ↦ (
+        stepped,
+        omega (arith, w .n-is, c .next-unknown-k .ensures, c .loop-i .inv .1),
+        subst (λ (n : ℕ). Places P (i + 1) n ws (c .if-in-set .places)) (sym (w .n-is))
+            (subst (λ (l : List ℕ). Places P (i + 1) (c .loop-i .n) ws l) (sym (w .places-is))
+            (places-same P i (c .loop-i .n) ws (c .loop-i .places) so (λ p. w .if-in-set .ensures tt (p .0, subst (λ (j : ℕ). member (c .args .open) j ≡ One) (sym j-is) (p .1))))),
+      )
     ]

@@ -18,12 +18,13 @@ pub loop-i-again : need.loop-i-again
 loop-i-again c =
     let ms = c .args .marks .now in
     let i = c .loop-i .i in
-    let room : i < length (c .loop-i .forms) = omega (arith, c .pre .room, c .loop-i .kept .forms) in
-    (c .next-unknown-k .ensures ∙ ap (λ (j : ℕ). j + gap (mark-at ms i)) (c .loop-i .inv .0) ∙ sym (rank-step ms i),
-     written-more (c .loop-i .forms) i (c .form-of .result) (c .loop-i .inv .1) (omega arith) room (c .form-of .ensures ∙ ap (form-of (mark-at ms i)) (c .loop-i .inv .0)))
+    let room : i < length (c .loop-i .forms) = omega (arith, c .pre .room, c .loop-i .kept .forms) in (
+      c .next-unknown-k .ensures ∙ ap (λ (j : ℕ). j + gap (mark-at ms i)) (c .loop-i .inv .0) ∙ sym (rank-step ms i),
+      written-more (c .loop-i .forms) i (c .form-of .result) (c .loop-i .inv .1) (omega arith) room (c .form-of .ensures ∙ ap (form-of (mark-at ms i)) (c .loop-i .inv .0)),
+    )
 
 pub returns : need.returns
 returns c =
     let done : c .loop-i .i ≡ length (c .args .marks .now) = omega arith in
     laid-made (c .args .marks .now) (c .args .forms .now) (c .pre .room) (c .loop-i .forms) (c .loop-i .kept .forms)
-      (λ i h. c .loop-i .inv .1 .made i (omega arith) (omega arith)) (λ i h. c .loop-i .inv .1 .after i (omega arith))
+    (λ i h. c .loop-i .inv .1 .made i (omega arith) (omega arith)) (λ i h. c .loop-i .inv .1 .after i (omega arith))

@@ -12,11 +12,11 @@ returns-in-Some c =
     let k = c .args .k in
     let at = c .in-Some .ensures tt in
     undecided (c .args .u) t (c .pre .reduced) k _ (at .0)
-      (subst (λ (w : ℕ). member (bitXor (pivot t k .unknowns) w) (c .in-Some .field-0) ≡ One) (c .only-unknown .ensures) (at .1))
+    (subst (λ (w : ℕ). member (bitXor (pivot t k .unknowns) w) (c .in-Some .field-0) ≡ One) (c .only-unknown .ensures) (at .1))
 
 pub returns-in-None : need.returns-in-None
 returns-in-None c =
     let t = c .args .pivots .now in
     let k = c .args .k in
     settled (c .args .u) t k (c .pre .size .1)
-      (λ q h. subst (λ (w : ℕ). member (bitXor (pivot t k .unknowns) w) q ≡ Zero) (c .only-unknown .ensures) (c .in-None .ensures tt q h))
+    (λ q h. subst (λ (w : ℕ). member (bitXor (pivot t k .unknowns) w) q ≡ Zero) (c .only-unknown .ensures) (c .in-None .ensures tt q h))

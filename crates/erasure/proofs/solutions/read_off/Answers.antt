@@ -24,11 +24,11 @@ loop-k-again c =
     let told : Bool → Type 0 = Tells (Solves u t) k (pivot t k .bit) in
     let made : ℕ → Type 0 = Sorted u t (k + 1) (set bits k (pivot t k .bit)) in
     elim (c .if-is-open .came) [
-      then-is-open w ↦
-        subst made (sym (w .open-is ∙ ap (bitOr (c .loop-k .open)) (w .only-unknown-open .ensures)))
+      | then-is-open w ↦
+          subst made (sym (w .open-is ∙ ap (bitOr (c .loop-k .open)) (w .only-unknown-open .ensures)))
           (sorted-open u t k bits (c .loop-k .open) room so (subst told (w .if-is-open .taken) (c .is-open .ensures)))
-    | else-is-open w ↦
-        subst made (sym (w .open-is)) (sorted-closed u t k bits (c .loop-k .open) room so (subst told (w .if-is-open .left) (c .is-open .ensures)))
+      | else-is-open w ↦
+          subst made (sym (w .open-is)) (sorted-closed u t k bits (c .loop-k .open) room so (subst told (w .if-is-open .left) (c .is-open .ensures)))
     ]
 
 pub returns-in-Some : need.returns-in-Some
@@ -36,10 +36,10 @@ returns-in-Some c =
     let at = c .in-Some .ensures tt in
     let e : c .loop-k .k ≡ c .args .u = omega arith in
     several (c .args .u) (c .args .pivots .now) (c .loop-k .bits) (c .loop-k .open)
-      (subst (λ (n : ℕ). Sorted (c .args .u) (c .args .pivots .now) n (c .loop-k .bits) (c .loop-k .open)) e (c .loop-k .inv)) _ (at .0) (at .1)
+    (subst (λ (n : ℕ). Sorted (c .args .u) (c .args .pivots .now) n (c .loop-k .bits) (c .loop-k .open)) e (c .loop-k .inv)) _ (at .0) (at .1)
 
 pub returns-in-None : need.returns-in-None
 returns-in-None c =
     let e : c .loop-k .k ≡ c .args .u = omega arith in
     unique (c .args .u) (c .args .pivots .now) (c .pre .reduced) (c .loop-k .bits) (c .loop-k .open)
-      (subst (λ (n : ℕ). Sorted (c .args .u) (c .args .pivots .now) n (c .loop-k .bits) (c .loop-k .open)) e (c .loop-k .inv)) (c .in-None .ensures tt)
+    (subst (λ (n : ℕ). Sorted (c .args .u) (c .args .pivots .now) n (c .loop-k .bits) (c .loop-k .open)) e (c .loop-k .inv)) (c .in-None .ensures tt)

@@ -10,26 +10,28 @@ use Rattle.erasure.proofs.solving.insert_rows.Needs as need
 
 pub loop-n-holds : need.loop-n-holds
 loop-n-holds c =
-    let shape = shape-of (c .args .code) in
-    (c .pre .reduced,
-     zeros-none (c .args .u) (c .args .pivots .now) (RowsZero (c .args .u) shape (c .args .run .now) (0 * shape .m)) (λ s r h. absurd (omega (arith, zero-mul (shape .m)))))
+    let shape = shape-of (c .args .code) in (
+      c .pre .reduced,
+      zeros-none (c .args .u) (c .args .pivots .now) (RowsZero (c .args .u) shape (c .args .run .now) (0 * shape .m)) (λ s r h. absurd (omega (arith, zero-mul (shape .m)))),
+    )
 
 pub loop-n-again : need.loop-n-again
 loop-n-again c =
     let i = c .if-not-insert-all .ensures tt in
     let made =
-        rows-are (c .args .u) (shape-of (c .args .code)) (c .args .run .now) (c .loop-n .n) (c .loop-n .rows) (c .rows-of-segment .last .rows)
-          (c .pre .there) (c .loop-n-test .taken) (c .loop-n .kept .rows ∙ c .pre .segment) (c .rows-of-segment .ensures .after) in
-    (i .reduced,
-     segment-more (c .args .u) (shape-of (c .args .code)) (c .args .run .now) (c .loop-n .n) (c .rows-of-segment .last .rows) made
-       (c .args .pivots .now) (c .loop-n .pivots) (c .insert-all .last .pivots) (c .loop-n .inv .1) (i .demanded))
+    rows-are (c .args .u) (shape-of (c .args .code)) (c .args .run .now) (c .loop-n .n) (c .loop-n .rows) (c .rows-of-segment .last .rows)
+    (c .pre .there) (c .loop-n-test .taken) (c .loop-n .kept .rows ∙ c .pre .segment) (c .rows-of-segment .ensures .after) in (
+      i .reduced,
+      segment-more (c .args .u) (shape-of (c .args .code)) (c .args .run .now) (c .loop-n .n) (c .rows-of-segment .last .rows) made
+          (c .args .pivots .now) (c .loop-n .pivots) (c .insert-all .last .pivots) (c .loop-n .inv .1) (i .demanded),
+    )
 
 pub returns-then-not-insert-all : need.returns-then-not-insert-all
 returns-then-not-insert-all c =
     let i = c .if-not-insert-all .ensures tt in
     let made =
-        rows-are (c .args .u) (shape-of (c .args .code)) (c .args .run .now) (c .loop-n .n) (c .loop-n .rows) (c .rows-of-segment .last .rows)
-          (c .pre .there) (c .loop-n-test .taken) (c .loop-n .kept .rows ∙ c .pre .segment) (c .rows-of-segment .ensures .after) in
+    rows-are (c .args .u) (shape-of (c .args .code)) (c .args .run .now) (c .loop-n .n) (c .loop-n .rows) (c .rows-of-segment .last .rows)
+    (c .pre .there) (c .loop-n-test .taken) (c .loop-n .kept .rows ∙ c .pre .segment) (c .rows-of-segment .ensures .after) in
     let shape = shape-of (c .args .code) in
     let far : c .loop-n .n + 1 ≤ 8 = omega (arith, c .loop-n-test .taken) in
     let most = mul-le-mul-right (shape .m) far in

@@ -32,5 +32,5 @@ pub returns : need.returns
 returns c =
     let d = c .if-not-insert-rows .ensures tt .demanded in
     means-same (c .args .u) _ _
-      (record { to = λ s z. d .to s z .1; from = λ s z. d .from s (blank-solved (c .args .u) blank s (all-blank 64), z) })
-      (c .read-off .result) (c .read-off .ensures)
+    (record { to = λ s z. d .to s z .1; from = λ s z. d .from s (blank-solved (c .args .u) blank s (all-blank 64), z) })
+    (c .read-off .result) (c .read-off .ensures)

@@ -18,10 +18,12 @@ loop-i-again g c =
     let place = c .args .place in
     let i = c .loop-i .i in
     elim (c .match-bit-at .came) [
-      in-Ok w ↦
-        ( w .differ-is ∙ one-more (λ k. getD held (place + k) Zero) mark i (c .loop-i .differ) _ _ _ _ (c .loop-i .inv .0) (w .weight-of .ensures .value) (w .plus .ensures) (bit-got held (place + i) (omega (arith, c .pre .held)) _ (w .in-Ok .ensures tt)) (w .marker-bit .ensures)
-        , omega (arith, w .differ-is, c .loop-i .inv .1, w .weight-of .ensures .small))
-    | in-rest w ↦ absurd (never-lost held (place + i) (omega (arith, c .pre .held)) _ (w .in-rest .ensures tt)) ]
+      | in-Ok w ↦ (
+        w .differ-is ∙ one-more (λ k. getD held (place + k) Zero) mark i (c .loop-i .differ) _ _ _ _ (c .loop-i .inv .0) (w .weight-of .ensures .value) (w .plus .ensures) (bit-got held (place + i) (omega (arith, c .pre .held)) _ (w .in-Ok .ensures tt)) (w .marker-bit .ensures),
+        omega (arith, w .differ-is, c .loop-i .inv .1, w .weight-of .ensures .small),
+      )
+      | in-rest w ↦ absurd (never-lost held (place + i) (omega (arith, c .pre .held)) _ (w .in-rest .ensures tt))
+    ]
 
 pub returns : need.returns
 unfolding distance

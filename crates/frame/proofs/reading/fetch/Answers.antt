@@ -18,9 +18,10 @@ loop-i-again g c =
     let i = c .loop-i .i in
     let here = c .args .place + 64 + i in
     elim (c .match-bit-at .came) [
-      in-Ok w ↦
-        w .run-is
-        ∙ ap (λ (z : List Bit). set z i (w .plus-in-Ok .result)) (c .loop-i .inv)
-        ∙ filled-more (received-bit (c .args .turn) held (c .args .place)) (c .args .run .now) Zero i (w .plus-in-Ok .result) (omega (arith, c .pre .run))
+      | in-Ok w ↦
+          w .run-is
+          ∙ ap (λ (z : List Bit). set z i (w .plus-in-Ok .result)) (c .loop-i .inv)
+          ∙ filled-more (received-bit (c .args .turn) held (c .args .place)) (c .args .run .now) Zero i (w .plus-in-Ok .result) (omega (arith, c .pre .run))
           (w .plus-in-Ok .ensures ∙ ap (λ (b : Bit). bit-plus b (c .args .turn)) (w .plus .ensures ∙ ap₂ bit-plus (bit-got held here (omega (arith, c .pre .held)) _ (w .in-Ok .ensures tt)) (w .randomizing-bit .ensures)))
-    | in-rest w ↦ absurd (never-lost held here (omega (arith, c .pre .held)) _ (w .in-rest .ensures tt)) ]
+      | in-rest w ↦ absurd (never-lost held here (omega (arith, c .pre .held)) _ (w .in-rest .ensures tt))
+    ]

@@ -27,7 +27,7 @@ returns-in-Some g c =
     let message = c .args .message .now in
     let run = c .args .run .now in
     let stop : Some (c .in-Some .fault) ≡ due (length held) (c .args .place) (c .args .code) (c .args .tolerance) (length message) (length run)
-        = c .in-Some .ensures tt ∙ ap (λ n. due n (c .args .place) (c .args .code) (c .args .tolerance) (length message) (length run)) (c .held .ensures) in
+    = c .in-Some .ensures tt ∙ ap (λ n. due n (c .args .place) (c .args .code) (c .args .tolerance) (length message) (length run)) (c .held .ensures) in
     record {
       answer = answer-is held (c .args .place) (c .args .code) (c .args .tolerance) message run _ stop _ refl;
       run = run-is held (c .args .place) (c .args .code) (c .args .tolerance) message run _ stop _ refl;
@@ -42,7 +42,7 @@ returns-in-rest-find-marker g c =
     let message = c .args .message .now in
     let run = c .args .run .now in
     let nothing : None ≡ due (length held) (c .args .place) (c .args .code) (c .args .tolerance) (length message) (length run)
-        = c .in-rest .ensures tt ∙ ap (λ n. due n (c .args .place) (c .args .code) (c .args .tolerance) (length message) (length run)) (c .held .ensures) in
+    = c .in-rest .ensures tt ∙ ap (λ n. due n (c .args .place) (c .args .code) (c .args .tolerance) (length message) (length run)) (c .held .ensures) in
     let lawful = admitted (length held) (c .args .place) (c .args .code) (c .args .tolerance) (length message) (length run) nothing in
     let none = c .in-rest-find-marker .ensures tt in
     record {
@@ -75,13 +75,13 @@ returns-in-Passes g c =
     let message = c .args .message .now in
     let run = c .args .run .now in
     let nothing : None ≡ due (length held) place code (c .args .tolerance) (length message) (length run)
-        = c .in-rest .ensures tt ∙ ap (λ n. due n place code (c .args .tolerance) (length message) (length run)) (c .held .ensures) in
+    = c .in-rest .ensures tt ∙ ap (λ n. due n place code (c .args .tolerance) (length message) (length run)) (c .held .ensures) in
     let lawful = admitted (length held) (c .args .place) (c .args .code) (c .args .tolerance) (length message) (length run) nothing in
     let way = c .in-Some-find-marker .orientation in
     let d = c .in-Some-find-marker .distance in
     let seen = c .in-Some-find-marker .ensures tt in
     let got : c .fetch .last .run ≡ received-run way held place code run
-        = c .fetch .ensures ∙ ap₂ (λ (t : Bit) (n : ℕ). received t held place n ++ drop n run) (c .flip .ensures) (c .block-len .ensures) in
+    = c .fetch .ensures ∙ ap₂ (λ (t : Bit) (n : ℕ). received t held place n ++ drop n run) (c .flip .ensures) (c .block-len .ensures) in
     let clean = passes-none _ (failing-row held place code run way (lawful .run-long) _ got _ (ap done (sym (c .in-Passes .is)) ∙ c .in-Ok .ensures tt .answer)) in
     let worked = run-worked held place code run way (lawful .run-long) _ got _ (c .check .ensures .after) in
     record {
@@ -104,13 +104,13 @@ returns-in-Fails g c =
     let message = c .args .message .now in
     let run = c .args .run .now in
     let nothing : None ≡ due (length held) place code (c .args .tolerance) (length message) (length run)
-        = c .in-rest .ensures tt ∙ ap (λ n. due n place code (c .args .tolerance) (length message) (length run)) (c .held .ensures) in
+    = c .in-rest .ensures tt ∙ ap (λ n. due n place code (c .args .tolerance) (length message) (length run)) (c .held .ensures) in
     let lawful = admitted (length held) (c .args .place) (c .args .code) (c .args .tolerance) (length message) (length run) nothing in
     let way = c .in-Some-find-marker .orientation in
     let d = c .in-Some-find-marker .distance in
     let seen = c .in-Some-find-marker .ensures tt in
     let got : c .fetch .last .run ≡ received-run way held place code run
-        = c .fetch .ensures ∙ ap₂ (λ (t : Bit) (n : ℕ). received t held place n ++ drop n run) (c .flip .ensures) (c .block-len .ensures) in
+    = c .fetch .ensures ∙ ap₂ (λ (t : Bit) (n : ℕ). received t held place n ++ drop n run) (c .flip .ensures) (c .block-len .ensures) in
     let row = c .in-Fails .row in
     let low = fails-some row _ (failing-row held place code run way (lawful .run-long) _ got _ (ap done (sym (c .in-Fails .is)) ∙ c .in-Ok .ensures tt .answer)) in
     let worked = run-worked held place code run way (lawful .run-long) _ got _ (c .check .ensures .after) in
