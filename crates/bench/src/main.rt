@@ -1,5 +1,6 @@
-// Times one check of a block and one coding of a message by each coder, for each code and element kind. It times only when given a word, since a
-// run without one is compared with a kept output.
+// Times one check of a block and one coding of a message by each coder, for each code and element kind, and
+// one fill of a block with 64 erased symbols for each code. It times only when given a word, since a run
+// without one is compared with a kept output.
 use ar4ja::Code;
 use ar4ja::CodeQuasiCyclic;
 use element::Bit;
@@ -9,6 +10,8 @@ use element::Form;
 use element::FormElement;
 use element::Lanes;
 use element::LanesElement;
+use erasure::Mark;
+use erasure::fill;
 use qc::CheckCoder;
 use qc::CheckCoderCoder;
 use qc::Coder;
@@ -24,6 +27,8 @@ const CODES: [Code; 3] = [Code::Half1024, Code::TwoThirds1024, Code::FourFifths1
 const CALLS: u64 = 2000;
 
 const CODINGS: u64 = 100;
+
+const FILLS: u64 = 10;
 
 const ROUNDS: u64 = 50;
 
@@ -65,6 +70,30 @@ fn best_coding<K: Coder, E: Element + Clone>(
     Ok(best)
 }
 
+fn best_fill(rt: &LibcRuntime, code: Code) -> Result<u64, AnyError> {
+    let mut marks = vec![in rt.alloc(); Mark::Zero; code.block_len()]?;
+    let mut forms = vec![in rt.alloc(); Form::zero(); code.whole_len()]?;
+    let mut places = vec![in rt.alloc(); 0usize; 64]?;
+    let mut best = u64::MAX;
+    for _ in 0..ROUNDS {
+        let start = Instant::now(rt)?;
+        let mut filled: u64 = 0;
+        for _ in 0..FILLS {
+            for mark in marks.iter_mut().take(64) {
+                *mark = Mark::Erased;
+            }
+            if let Ok(()) = fill(code, &mut marks, &mut forms, &mut places) {
+                filled = filled.saturating_add(1);
+            }
+        }
+        let spent = start.elapsed(rt)?.as_nanos();
+        if filled == FILLS {
+            best = best.min(u64::try_from(spent).unwrap_or(u64::MAX) / FILLS);
+        }
+    }
+    Ok(best)
+}
+
 fn time_kind<E: Element + Clone>(rt: &LibcRuntime, kind: &str) -> Result<(), AnyError> {
     for code in CODES {
         let n = code.number();
@@ -94,5 +123,14 @@ fn main(rt: LibcRuntime) -> Result<(), AnyError> {
     }
     time_kind::<Bit>(&rt, "bits")?;
     time_kind::<Lanes>(&rt, "64 lanes")?;
-    time_kind::<Form>(&rt, "forms")
+    time_kind::<Form>(&rt, "forms")?;
+    for code in CODES {
+        println!(
+            rt,
+            "code {}: fill of 64 erased {} ns",
+            code.number(),
+            best_fill(&rt, code)?
+        )?;
+    }
+    Ok(())
 }
