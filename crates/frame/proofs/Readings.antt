@@ -3,11 +3,14 @@ use mathlib.Core.Path.{_≡_, refl, sym, ap, ap₂, subst, _∙_}
 use mathlib.Core.Bool.{cond}
 use mathlib.Core.Logic.{_↔_, inl, inr}
 use mathlib.Core.List.{List, _++_}
-use Prim.Native.Nat.{ℕ, _+_, _≤_}
+use Prim.Native.Nat.{ℕ, _+_, _*_, _<_, _≤_}
+use native.Mathlib.Nat.{mul-comm}
 use native.Mathlib.Omega.{arith}
 use lib.Dec.{eqb, leb, ltb}
-use lib.ListN.{length, drop, length-append, length-drop}
+use lib.ListN.{length, getD, drop, length-append, length-drop}
 use Rattle.std.proofs.shelf.Tests.{cases-bool, cond-true, cond-false, le-ltb, ltb-false, leb-true, eqb-true}
+use Rattle.std.proofs.shelf.Bits.{mul-add-lt}
+use Rattle.std.proofs.shelf.Lists.{getD-append-left}
 use Rattle.std.proofs.shelf.Counted.{length-map-counting}
 use Rattle.std.specs.declared.option.Option.{Option}
 use Rattle.std.specs.declared.option.Option.the-variants.{Some, None}
@@ -16,21 +19,23 @@ use Rattle.std.specs.declared.result.Result.the-variants.{Ok, Err}
 use Rattle.refusal.specs.Outcome.{Numbered, Outcome, Outcome.done, Outcome.refused}
 use Rattle.element.specs.declared.Bit.{Bit}
 use Rattle.element.specs.declared.Bit.the-variants.{Zero}
-use Rattle.element.specs.Bits.{bit-plus, bit-same}
+use Rattle.element.specs.Bits.{bit-plus, bit-same, bit-laws}
 use Rattle.qc.specs.declared.answers.RunFault.{RunFault}
 use Rattle.qc.specs.declared.answers.Verdict.{Verdict}
 use Rattle.qc.specs.declared.answers.Verdict.the-variants.{Passes, Fails}
 use Rattle.qc.specs.Shape.{Shape, M, sent, whole}
 use Rattle.qc.specs.Codeblock.{completed, groups, Codeblock}
 use Rattle.qc.specs.Check.{verdict, lowest-row, check-answer, checked-run}
+use Rattle.qc.proofs.Soundness.{sounds}
+use Rattle.qc.proofs.Mapped.{codeblock-same}
 use Rattle.ar4ja.specs.declared.codes.Code.{Code}
 use Rattle.ar4ja.specs.declared.codes.Code.the-variants.{Half1024, TwoThirds1024, FourFifths1024}
-use Rattle.ar4ja.specs.Codes.{shape-of}
+use Rattle.ar4ja.specs.Codes.{shape-of, shapes-sound}
 use Rattle.outlet.specs.Masks.{frame-bits}
 use Rattle.frame.specs.declared.faults.Orientation.{Orientation}
 use Rattle.frame.specs.declared.faults.ReadFault.{ReadFault}
 use Rattle.frame.specs.Marker.{flipped, found, Marked}
-use Rattle.frame.specs.Reading.{received-bit, received-run, due, answer-by, run-by, message-by, read-answer, read-run, read-message, failing, worked-run}
+use Rattle.frame.specs.Reading.{received-bit, received-block, received-run, MarkedCodeblock, due, answer-by, run-by, message-by, read-answer, read-run, read-message, failing, worked-run}
 use Rattle.frame.proofs.Marks.{none-some, some-same, marked-found, found-marked}
 
 -- a block is a part of the whole block, and a message of the block
@@ -115,16 +120,16 @@ module _ (held : List Bit) (place : ℕ) (code : Code) (tolerance : ℕ) (messag
   message-is = ap₂ (message-by held place code message run) nothing seen
 
 -- a block as received is a codeblock
-abbrev pub Good : List Bit → ℕ → Code → List Bit → Orientation → Type 0
-Good held place code run way = Codeblock Zero bit-plus (shape-of code) (groups Zero (M (shape-of code)) (received-run way held place code run))
+abbrev pub Good : List Bit → ℕ → Code → Orientation → Type 0
+Good held place code way = Codeblock Zero bit-plus (shape-of code) (groups Zero (M (shape-of code)) (received-block way held place code))
 
 -- reading accepts exactly the marked blocks that are codeblocks
-abbrev pub Accepts : List Bit → ℕ → Code → ℕ → List Bit → Result (Orientation × ℕ) ReadFault → Type 0
-Accepts held place code tolerance run r = (way : Orientation) (d : ℕ) → r ≡ Ok (way, d) ↔ (Marked held place tolerance way d × Good held place code run way)
+abbrev pub Accepts : List Bit → ℕ → Code → ℕ → Result (Orientation × ℕ) ReadFault → Type 0
+Accepts held place code tolerance r = (way : Orientation) (d : ℕ) → r ≡ Ok (way, d) ↔ MarkedCodeblock held place code tolerance way d
 
-module _ (held : List Bit) (place : ℕ) (code : Code) (tolerance : ℕ) (small : tolerance ≤ 15) (run : List Bit) where
+module _ (held : List Bit) (place : ℕ) (code : Code) (tolerance : ℕ) (small : tolerance ≤ 15) where
   -- with no marker found nothing is accepted
-  pub unmarked : None ≡ found held place tolerance → (fault : ReadFault) → Accepts held place code tolerance run (Err fault)
+  pub unmarked : None ≡ found held place tolerance → (fault : ReadFault) → Accepts held place code tolerance (Err fault)
   unmarked none fault = λ way d. (
     (λ e. absurd (err-ok fault (way, d) e)),
     (λ p. absurd (none-some (way, d) (none ∙ sym (marked-found held place tolerance small way d (p .0))))),
@@ -134,16 +139,16 @@ module _ (held : List Bit) (place : ℕ) (code : Code) (tolerance : ℕ) (small 
     same-mark : (way : Orientation) (d : ℕ) → Marked held place tolerance way d → _≡_ {A = Orientation × ℕ} (way₀, d₀) (way, d)
     same-mark way d there = some-same _ _ (seen ∙ sym (marked-found held place tolerance small way d there))
 
-    pub accepted : Good held place code run way₀ → Accepts held place code tolerance run (Ok (way₀, d₀))
+    pub accepted : Good held place code way₀ → Accepts held place code tolerance (Ok (way₀, d₀))
     accepted good = λ way d. (
-      (λ e. subst (λ w. Marked held place tolerance (w .0) (w .1) × Good held place code run (w .0)) (ok-same _ _ e) (found-marked held place tolerance way₀ d₀ seen, good)),
+      (λ e. subst (λ w. Marked held place tolerance (w .0) (w .1) × Good held place code (w .0)) (ok-same _ _ e) (found-marked held place tolerance way₀ d₀ seen, good)),
       (λ p. ap Ok (same-mark way d (p .0))),
     )
 
-    pub turned-down : (Good held place code run way₀ → ⊥) → (fault : ReadFault) → Accepts held place code tolerance run (Err fault)
+    pub turned-down : (Good held place code way₀ → ⊥) → (fault : ReadFault) → Accepts held place code tolerance (Err fault)
     turned-down bad fault = λ way d. (
       (λ e. absurd (err-ok fault (way, d) e)),
-      (λ p. absurd (bad (subst (λ w. Good held place code run (w .0)) (sym (same-mark way d (p .0))) (p .1)))),
+      (λ p. absurd (bad (subst (λ w. Good held place code (w .0)) (sym (same-mark way d (p .0))) (p .1)))),
     )
 
 -- what a check of the received block tells
@@ -164,8 +169,16 @@ module _ (held : List Bit) (place : ℕ) (code : Code) (run : List Bit) (way : O
   abbrev Held : Type 0
   Held = Codeblock Zero bit-plus (shape-of code) (groups Zero (M (shape-of code)) xs)
 
-  pub good-of : Held → Good held place code run way
-  good-of h = subst (λ (l : List Bit). Codeblock Zero bit-plus (shape-of code) (groups Zero (M (shape-of code)) l)) got h
+  -- the run has the received block at its front
+  front : (g i : ℕ) → g < shape-of code .K + 2 → i < M (shape-of code) → groups Zero (M (shape-of code)) xs g i ≡ groups Zero (M (shape-of code)) (received-block way held place code) g i
+  front g i hg hi =
+      let c = shape-of code in
+      let low : g * M c + i < sent c = omega (arith, mul-add-lt g (M c) i (c .K + 2) hg hi, mul-comm (4 * c .m) (c .K + 2)) in
+      ap (λ (l : List Bit). getD l (g * M c + i) Zero) got
+      ∙ getD-append-left (received-block way held place code) (drop (sent c) run) Zero (g * M c + i) (omega (arith, low, length-map-counting (received-bit (flipped way) held place) 0 (sent c)))
 
-  pub of-good : Good held place code run way → Held
-  of-good h = subst (λ (l : List Bit). Codeblock Zero bit-plus (shape-of code) (groups Zero (M (shape-of code)) l)) (sym got) h
+  pub good-of : Held → Good held place code way
+  good-of h = codeblock-same bit-laws (shape-of code) (sounds (shape-of code) (shapes-sound code)) _ _ front h
+
+  pub of-good : Good held place code way → Held
+  of-good h = codeblock-same bit-laws (shape-of code) (sounds (shape-of code) (shapes-sound code)) _ _ (λ g i hg hi. sym (front g i hg hi)) h

@@ -12,8 +12,8 @@ use Rattle.refusal.specs.Outcome.{Outcome, Outcome.done, Outcome.refused}
 use Rattle.element.specs.declared.Bit.{Bit}
 use Rattle.element.specs.declared.Bit.the-variants.{Zero}
 use Rattle.element.specs.Bits.{bit-plus, bit-same}
-use Rattle.qc.specs.Shape.{sent, whole}
-use Rattle.qc.specs.Codeblock.{completed}
+use Rattle.qc.specs.Shape.{M, sent, whole}
+use Rattle.qc.specs.Codeblock.{completed, groups, Codeblock}
 use Rattle.qc.specs.Check.{lowest-row}
 use Rattle.ar4ja.specs.declared.codes.Code.{Code}
 use Rattle.ar4ja.specs.Codes.{shape-of}
@@ -23,7 +23,7 @@ use Rattle.frame.specs.declared.faults.Orientation.{Orientation}
 use Rattle.frame.specs.declared.faults.ReadFault.{ReadFault}
 use Rattle.frame.specs.declared.faults.ReadFault.the-variants.{Tolerance, MessageLength, RunTooShort, NotHeld, NoMarker, Fails}
 use Rattle.frame.specs.Refusals.{read-fault}
-use Rattle.frame.specs.Marker.{flipped, found}
+use Rattle.frame.specs.Marker.{flipped, found, Marked}
 use Rattle.frame.specs.Message.{message-bytes}
 
 -- bit i of the block in the frame at a place, to whose bits `turn` was added: without that, and without
@@ -35,9 +35,19 @@ received-bit turn held place i = bit-plus (bit-plus (getD held (place + 64 + i) 
 abbrev pub received : Bit → List Bit → ℕ → ℕ → List Bit
 received turn held place n = map (received-bit turn held place) (counting 0 n)
 
+-- the block in the frame at a place, whose bits stand this way
+abbrev pub received-block : Orientation → List Bit → ℕ → Code → List Bit
+received-block way held place code = received (flipped way) held place (sent (shape-of code))
+
+-- the bits at a place are a frame that stands this way, its marker d bits off, and its block is a codeblock:
+-- some punctured group makes all rows zero
+abbrev pub MarkedCodeblock : List Bit → ℕ → Code → ℕ → Orientation → ℕ → Type 0
+MarkedCodeblock held place code tolerance way d =
+    Marked held place tolerance way d × Codeblock Zero bit-plus (shape-of code) (groups Zero (M (shape-of code)) (received-block way held place code))
+
 -- a run with the received block at its front
 abbrev pub received-run : Orientation → List Bit → ℕ → Code → List Bit → List Bit
-received-run way held place code run = received (flipped way) held place (sent (shape-of code)) ++ drop (sent (shape-of code)) run
+received-run way held place code run = received-block way held place code ++ drop (sent (shape-of code)) run
 
 -- the same with the block's punctured group behind it
 abbrev pub worked-run : Orientation → List Bit → ℕ → Code → List Bit → List Bit

@@ -7,16 +7,11 @@ ghost use lib.ListN.{length, drop};
 ghost use Rattle.std.specs.declared.option.Option.the-variants.{None};
 ghost use Rattle.std.specs.declared.result.Result.the-variants.{Ok};
 ghost use Rattle.refusal.specs.Outcome.{outcome};
-ghost use Rattle.element.specs.declared.Bit.the-variants.{Zero};
-ghost use Rattle.element.specs.Bits.{bit-plus};
-ghost use Rattle.qc.specs.Shape.{M};
-ghost use Rattle.qc.specs.Codeblock.{Codeblock, groups};
-ghost use Rattle.ar4ja.specs.Codes.{shape-of};
 ghost use Rattle.frame.specs.declared.faults.Orientation.{Orientation};
 ghost use Rattle.frame.specs.declared.faults.Orientation.the-variants.{Upright, Complemented};
 ghost use Rattle.frame.specs.Refusals.{read-fault};
 ghost use Rattle.frame.specs.Marker.{flipped, found, Marked};
-ghost use Rattle.frame.specs.Reading.{received, received-run, due, read-answer, read-run, read-message};
+ghost use Rattle.frame.specs.Reading.{received, MarkedCodeblock, due, read-answer, read-run, read-message};
 use crate::bytes::gather;
 use crate::faults::Orientation;
 use crate::faults::ReadFault;
@@ -104,7 +99,7 @@ pub fn read<O: Outlet>(
     ensures answer { λ r. ⌜ outcome read-fault r ≡ read-answer (bits (now (outlet .entry))) place code tolerance (length (now (message .entry))) (now (run .entry)) ⌝ }
     ensures run { λ _. ⌜ now (run .exit) ≡ read-run (bits (now (outlet .entry))) place code tolerance (length (now (message .entry))) (now (run .entry)) ⌝ }
     ensures message { λ _. ⌜ now (message .exit) ≡ read-message (bits (now (outlet .entry))) place code tolerance (now (message .entry)) (now (run .entry)) ⌝ }
-    ensures accepts { λ r. ⌜ (due (length (bits (now (outlet .entry)))) place code tolerance (length (now (message .entry))) (length (now (run .entry))) ≡ None → (way : Orientation) (d : ℕ) → r ≡ Ok (way, d) ↔ (Marked (bits (now (outlet .entry))) place tolerance way d × Codeblock Zero bit-plus (shape-of code) (groups Zero (M (shape-of code)) (received-run way (bits (now (outlet .entry))) place code (now (run .entry)))))) ⌝ }
+    ensures accepts { λ r. ⌜ (due (length (bits (now (outlet .entry)))) place code tolerance (length (now (message .entry))) (length (now (run .entry))) ≡ None → (way : Orientation) (d : ℕ) → r ≡ Ok (way, d) ↔ MarkedCodeblock (bits (now (outlet .entry))) place code tolerance way d) ⌝ }
     ensures one { λ _. ⌜ (tolerance ≤ 15 → (d e : ℕ) → Marked (bits (now (outlet .entry))) place tolerance Upright d → Marked (bits (now (outlet .entry))) place tolerance Complemented e → ⊥) ⌝ }
 {
     if let Some(fault) = refusal_due(

@@ -49,7 +49,7 @@ returns-in-rest-find-marker g c =
       answer = answer-is held (c .args .place) (c .args .code) (c .args .tolerance) message run _ nothing _ none;
       run = run-is held (c .args .place) (c .args .code) (c .args .tolerance) message run _ nothing _ none;
       message = message-is held (c .args .place) (c .args .code) (c .args .tolerance) message run _ nothing _ none;
-      accepts = λ _. unmarked held (c .args .place) (c .args .code) (c .args .tolerance) (lawful .tolerable) run none NoMarker;
+      accepts = λ _. unmarked held (c .args .place) (c .args .code) (c .args .tolerance) (lawful .tolerable) none NoMarker;
       one = one-way held (c .args .place) (c .args .tolerance);
     }
 
@@ -91,7 +91,7 @@ returns-in-Passes g c =
           c .gather .ensures ∙ ap (λ (z : List Bit). message-bytes z (length message)) worked
           ∙ ap (filled held place code message (worked-run way held place code run)) (sym clean)
           ∙ message-is held place code (c .args .tolerance) message run _ nothing _ seen;
-      accepts = λ _. accepted held place code (c .args .tolerance) (lawful .tolerable) run way d seen
+      accepts = λ _. accepted held place code (c .args .tolerance) (lawful .tolerable) way d seen
           (good-of held place code run way (lawful .run-long) _ got (c .in-Ok .ensures tt .passes (long-enough held place code run way (lawful .run-long) _ got) .0 (ap Ok (c .in-Passes .is))));
       one = one-way held place (c .args .tolerance);
     }
@@ -120,7 +120,7 @@ returns-in-Fails g c =
       message =
           ap (filled held place code message (worked-run way held place code run)) (sym low)
           ∙ message-is held place code (c .args .tolerance) message run _ nothing _ seen;
-      accepts = λ _. turned-down held place code (c .args .tolerance) (lawful .tolerable) run way d seen
+      accepts = λ _. turned-down held place code (c .args .tolerance) (lawful .tolerable) way d seen
           (λ good. fails-not row (ap Ok (sym (c .in-Fails .is)) ∙ c .in-Ok .ensures tt .passes (long-enough held place code run way (lawful .run-long) _ got) .1 (of-good held place code run way (lawful .run-long) _ got good))) (Fails row);
       one = one-way held place (c .args .tolerance);
     }
