@@ -2,6 +2,9 @@
 // one fill of a block with 64 erased symbols for each code. Beside the time of a call stand the blocks checked
 // in a second, and the information bits coded. It times only when given a word, since a run without one is
 // compared with a kept output.
+
+#![tactic(auto)]
+
 use ar4ja::Code;
 use element::{Bit, Element, Form, Lanes};
 use erasure::{Mark, fill};

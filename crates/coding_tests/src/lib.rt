@@ -1,4 +1,7 @@
 // Examples of naming codes, checking and coding, at the edges of what is refused.
+
+#![tactic(auto)]
+
 #[cfg(test)]
 mod tests {
     use ar4ja::{Code, CodeFault};

@@ -1,5 +1,8 @@
 // Elements that codes are made of: what can be added and compared. Coding and checking are written once,
 // over any element; the three kinds here are bits, 64 blocks side by side, and affine forms in 64 unknowns.
+
+#![tactic(auto)]
+
 ghost use Rattle.std.specs.Prelude.{◌≡◌, Bool};
 ghost use Rattle.element.specs.Laws.{Laws};
 ghost use Rattle.element.specs.Bits.{bit_zero, bit_plus, bit_same, bit_laws};

@@ -1,4 +1,7 @@
 // Examples of filling erased symbols, in codeblocks of the three codes.
+
+#![tactic(auto)]
+
 #[cfg(test)]
 mod tests {
     use ar4ja::Code;

@@ -1,4 +1,7 @@
 // Frames: the attached sync marker and a block behind it, and how a frame is read from where it stands.
+
+#![tactic(auto)]
+
 mod bytes;
 mod faults;
 mod marker;

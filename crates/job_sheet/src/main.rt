@@ -1,4 +1,7 @@
 // The job sheet program: reads a sheet from standard input, and prints what it gives to standard output.
+
+#![tactic(auto)]
+
 ghost use Rattle.std.specs.Prelude.{◌≤◌, length, IfOk};
 
 use jobsheet::work;

@@ -1,5 +1,8 @@
 // The job sheet: a text of coding jobs, one to a line, and what is printed for it. It knows the coders and
 // the codes, and nothing of frames or outlets.
+
+#![tactic(auto)]
+
 mod coding;
 mod faults;
 mod jobs;

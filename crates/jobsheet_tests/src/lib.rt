@@ -1,4 +1,7 @@
 // Examples of job sheets: every refusal at its edge, and good lines in every code and order.
+
+#![tactic(auto)]
+
 #[cfg(test)]
 mod tests {
     use jobsheet::{ROOM, Sheet, SheetFault, work};

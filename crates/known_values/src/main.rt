@@ -1,5 +1,8 @@
 // Values from outside, each with its verdict: parities that the standard prints, and every line of its printed
 // generator tables against the tables that the product holds.
+
+#![tactic(auto)]
+
 mod printed;
 
 use ar4ja::Code;

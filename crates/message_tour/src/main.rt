@@ -1,5 +1,7 @@
 // One real task from beginning to end, told in plain sentences.
 
+#![tactic(auto)]
+
 mod blocks;
 mod coding;
 mod filling;

@@ -1,5 +1,8 @@
 // Outlets: where bits go, by meaning. An outlet holds a list of bits and takes more at its end, up to a
 // capacity that never changes. A layer is an outlet over another one that shows its bits changed.
+
+#![tactic(auto)]
+
 mod bytes;
 mod faults;
 mod interface;

@@ -1,4 +1,7 @@
 // Outlets from outside: a caller that knows what the bytes are after its takes, and tests at the edges.
+
+#![tactic(auto)]
+
 ghost use Rattle.std.specs.Prelude.{◌≡◌, [], ◌∷◌, vec_len};
 ghost use Rattle.outlet.specs.Meaning.{taken};
 ghost use Rattle.outlet.specs.Packing.{packed_room, bytes_after};

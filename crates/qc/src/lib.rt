@@ -1,5 +1,8 @@
 // Quasi-cyclic codes with punctured bits, over any element kind and any shape with segments of up to 512 elements:
 // permutations, block equations, the check of a block, and two coders. It knows the numbers of no code.
+
+#![tactic(auto)]
+
 mod answers;
 mod check_rows;
 mod circulant;

@@ -1,4 +1,7 @@
 // One real task from beginning to end, told in plain sentences.
+
+#![tactic(auto)]
+
 use ar4ja::Code;
 use element::{Bit, Form};
 use erasure::{Mark, fill};

@@ -1,4 +1,7 @@
 // Values worked out by hand from the standard, each beside what the definitions give.
+
+#![tactic(auto)]
+
 ghost use Rattle.std.specs.Prelude.{◌≡◌, true, length};
 ghost use Rattle.element.specs.declared.Bit.TheVariants.{Zero};
 ghost use Rattle.element.specs.Bits.{bit_plus};
