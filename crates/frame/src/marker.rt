@@ -30,9 +30,9 @@ pub fn marker_bit(i: usize) -> Bit
 
 // In how many bits the 64 at a place differ from the marker.
 fn marker_distance<O: Outlet>(outlet: &O, place: usize) -> u32
-    requires held { place + 64 ≤ length (bits outlet.now) }
+    requires held { place + 64 ≤ length (O.bits outlet.now) }
     requires fits { place + 64 < 2 ^ 64 }
-    ensures { result ≡ distance Upright (bits outlet.now) place }
+    ensures { result ≡ distance Upright (O.bits outlet.now) place }
 {
     let mut differ = 0u32;
     for i in 0..MARKER_LEN {
@@ -50,9 +50,9 @@ pub(crate) fn find_marker<O: Outlet>(
     place: usize,
     tolerance: u32,
 ) -> Option<(Orientation, u32)>
-    requires held { place + 64 ≤ length (bits outlet.now) }
+    requires held { place + 64 ≤ length (O.bits outlet.now) }
     requires fits { place + 64 < 2 ^ 64 }
-    ensures { result ≡ found (bits outlet.now) place tolerance }
+    ensures { result ≡ found (O.bits outlet.now) place tolerance }
 {
     let differ = marker_distance(outlet, place);
     if differ <= tolerance {

@@ -61,9 +61,9 @@ fn flip(orientation: Orientation) -> Bit
 // randomizing sequence and without `turn`, which was added to all.
 fn fetch<O: Outlet>(outlet: &O, place: usize, turn: Bit, count: usize, run: &mut [Bit])
     requires run { count ≤ length run.old }
-    requires held { place + 64 + count ≤ length (bits outlet.now) }
+    requires held { place + 64 + count ≤ length (O.bits outlet.now) }
     requires fits { place + 64 + count < 2 ^ 64 }
-    ensures { run.new ≡ received turn (bits outlet.now) place count ++ drop count run.old }
+    ensures { run.new ≡ received turn (O.bits outlet.now) place count ++ drop count run.old }
 {
     for i in 0..count {
         if let Ok(b) = outlet.bit_at(place + MARKER_LEN + i) {
@@ -84,11 +84,11 @@ pub fn read<O: Outlet>(
     message: &mut [u8],
     run: &mut [Bit],
 ) -> Result<(Orientation, u32), ReadFault>
-    ensures answer { outcome read_fault result ≡ read_answer (bits outlet.now) place code tolerance (length message.old) run.old }
-    ensures run { run.new ≡ read_run (bits outlet.now) place code tolerance (length message.old) run.old }
-    ensures message { message.new ≡ read_message (bits outlet.now) place code tolerance message.old run.old }
-    ensures accepts { due (length (bits outlet.now)) place code tolerance (length message.old) (length run.old) ≡ None → (way : Orientation) (d : ℕ) → result ≡ Ok (way, d) ↔ MarkedCodeblock (bits outlet.now) place code tolerance way d }
-    ensures one { tolerance ≤ 15 → (d e : ℕ) → Marked (bits outlet.now) place tolerance Upright d → Marked (bits outlet.now) place tolerance Complemented e → ⊥ }
+    ensures answer { outcome read_fault result ≡ read_answer (O.bits outlet.now) place code tolerance (length message.old) run.old }
+    ensures run { run.new ≡ read_run (O.bits outlet.now) place code tolerance (length message.old) run.old }
+    ensures message { message.new ≡ read_message (O.bits outlet.now) place code tolerance message.old run.old }
+    ensures accepts { due (length (O.bits outlet.now)) place code tolerance (length message.old) (length run.old) ≡ None → (way : Orientation) (d : ℕ) → result ≡ Ok (way, d) ↔ MarkedCodeblock (O.bits outlet.now) place code tolerance way d }
+    ensures one { tolerance ≤ 15 → (d e : ℕ) → Marked (O.bits outlet.now) place tolerance Upright d → Marked (O.bits outlet.now) place tolerance Complemented e → ⊥ }
 {
     if let Some(fault) = refusal_due(
         outlet.held(),

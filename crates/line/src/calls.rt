@@ -55,7 +55,7 @@ fn read_back_due(
 impl<C: Coder, O: Outlet> Line<C, O> {
     // Opens a line over an outlet, with a randomizer between them. Its frames follow what the outlet holds.
     pub fn open(code: Code, coder: C, outlet: O) -> Line<C, O>
-        ensures follows { Follows bits room (opened code (bits outlet) (room outlet)) result }
+        ensures follows { Follows O.bits O.room (opened code (O.bits outlet) (O.room outlet)) result }
         ensures outlet { result.randomizer.below ≡ outlet }
     {
         Line {
@@ -69,16 +69,16 @@ impl<C: Coder, O: Outlet> Line<C, O> {
 
     // The done sends, and the refused ones up to the largest number that is kept.
     pub fn counts(&self) -> (usize, u32)
-        ensures { (b : Book) → Follows bits room b self.now → (result.0 ≡ length b.messages) × (result.1 ≡ b.refused) }
+        ensures { (b : Book) → Follows O.bits O.room b self.now → (result.0 ≡ length b.messages) × (result.1 ≡ b.refused) }
     {
         (self.done, self.refused)
     }
 
     // Sends the frame of the message. The run then holds the message's whole block.
     pub fn send(&mut self, message: &[u8], run: &mut [Bit]) -> Result<(), SendFault>
-        ensures sends { (b : Book) → Follows bits room b self.old → Sends bits room message.now run.old result run.new self.new b }
+        ensures sends { (b : Book) → Follows O.bits O.room b self.old → Sends O.bits O.room message.now run.old result run.new self.new b }
         ensures block { (code : Code) (m : List ℕ) → WholeBlock code m (whole_block code m) }
-        ensures kept { kept self.old.randomizer.below self.new.randomizer.below }
+        ensures kept { O.kept self.old.randomizer.below self.new.randomizer.below }
     {
         let left = self.randomizer.capacity() - self.randomizer.held();
         if let Some(fault) = send_due(self.code, left, message.len(), run.len()) {
@@ -101,7 +101,7 @@ impl<C: Coder, O: Outlet> Line<C, O> {
         message: &mut [u8],
         run: &mut [Bit],
     ) -> Result<(), ReadBackFault>
-        ensures { (b : Book) → Follows bits room b self.now → ReadsBack frame message.old run.old result message.new run.new b }
+        ensures { (b : Book) → Follows O.bits O.room b self.now → ReadsBack frame message.old run.old result message.new run.new b }
     {
         if let Some(fault) = read_back_due(self.code, self.done, frame, message.len(), run.len()) {
             return Err(fault);

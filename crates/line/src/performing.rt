@@ -13,9 +13,9 @@ use qc::Coder;
 
 // Puts one call to the line: its buffers are worked in, and its answer is noted.
 fn serve<C: Coder, O: Outlet>(line: &mut Line<C, O>, call: &mut Call)
-    ensures calls { (b : Book) → Follows bits room b line.old → seen call.new ≡ served b (seen call.old) }
-    ensures book { (b : Book) → Follows bits room b line.old → Follows bits room (turned b (seen call.old)) line.new }
-    ensures kept { kept line.old.randomizer.below line.new.randomizer.below }
+    ensures calls { (b : Book) → Follows O.bits O.room b line.old → seen call.new ≡ served b (seen call.old) }
+    ensures book { (b : Book) → Follows O.bits O.room b line.old → Follows O.bits O.room (turned b (seen call.old)) line.new }
+    ensures kept { O.kept line.old.randomizer.below line.new.randomizer.below }
 {
     match call.ask {
         Ask::Send => {
@@ -39,10 +39,10 @@ fn serve<C: Coder, O: Outlet>(line: &mut Line<C, O>, call: &mut Call)
 
 // Opens a line over the outlet, puts the calls to it one after the other, and hands the outlet back.
 pub fn perform<C: Coder + Drop, O: Outlet>(code: Code, coder: C, outlet: O, calls: &mut [Call]) -> O
-    ensures answers { map seen calls.new ≡ served_calls (opened code (bits outlet) (room outlet)) (map seen calls.old) }
-    ensures outlet { bits result ≡ written (book_after (opened code (bits outlet) (room outlet)) (map seen calls.old)) }
-    ensures law { LineLaw code (bits outlet) (room outlet) (map seen calls.old) (map seen calls.new) (bits result) }
-    ensures kept { kept outlet result }
+    ensures answers { map seen calls.new ≡ served_calls (opened code (O.bits outlet) (O.room outlet)) (map seen calls.old) }
+    ensures outlet { O.bits result ≡ written (book_after (opened code (O.bits outlet) (O.room outlet)) (map seen calls.old)) }
+    ensures law { LineLaw code (O.bits outlet) (O.room outlet) (map seen calls.old) (map seen calls.new) (O.bits result) }
+    ensures kept { O.kept outlet result }
 {
     let mut line = Line::open(code, coder, outlet);
     for i in 0..calls.len() {

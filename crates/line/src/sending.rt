@@ -19,9 +19,9 @@ pub(crate) fn spread(message: &[u8], run: &mut [Bit])
 
 // Gives the outlet the marker.
 pub(crate) fn put_marker<O: Outlet>(out: &mut O)
-    requires { length (bits out.old) + 64 ≤ room out.old }
-    ensures bits { bits out.new ≡ bits out.old ++ marker }
-    ensures kept { kept out.old out.new }
+    requires { length (O.bits out.old) + 64 ≤ O.room out.old }
+    ensures bits { O.bits out.new ≡ O.bits out.old ++ marker }
+    ensures kept { O.kept out.old out.new }
 {
     for i in 0..MARKER_LEN {
         let _ = out.take(marker_bit(i));
@@ -30,9 +30,9 @@ pub(crate) fn put_marker<O: Outlet>(out: &mut O)
 
 // Gives the outlet the bits of a slice.
 pub(crate) fn put_bits<O: Outlet>(out: &mut O, run: &[Bit])
-    requires { length (bits out.old) + length run.now ≤ room out.old }
-    ensures bits { bits out.new ≡ bits out.old ++ run.now }
-    ensures kept { kept out.old out.new }
+    requires { length (O.bits out.old) + length run.now ≤ O.room out.old }
+    ensures bits { O.bits out.new ≡ O.bits out.old ++ run.now }
+    ensures kept { O.kept out.old out.new }
 {
     for b in run {
         let _ = out.take(*b);

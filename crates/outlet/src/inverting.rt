@@ -17,7 +17,7 @@ impl<O: Outlet> Inverter<O> {
     // it shows those again.
     pub fn over(below: O) -> Inverter<O>
         ensures below { result.below ≡ below }
-        ensures twice { masked inverting (masked inverting (O.Outlet.bits result.below)) ≡ O.Outlet.bits below }
+        ensures twice { masked inverting (masked inverting (O.bits result.below)) ≡ O.bits below }
     {
         Inverter { below }
     }
@@ -32,13 +32,13 @@ impl<O: Outlet> Inverter<O> {
 }
 
 impl<O: Outlet> Outlet for Inverter<O> {
-    ghost bits = { λ w. masked inverting (O.Outlet.bits w.below) };
+    ghost bits = { λ w. masked inverting (O.bits w.below) };
 
-    ghost room = { λ w. O.Outlet.room w.below };
+    ghost room = { λ w. O.room w.below };
 
-    ghost kept = { λ w v. O.Outlet.kept w.below v.below };
+    ghost kept = { λ w v. O.kept w.below v.below };
 
-    ghost lawful = { inverter_lawful O.Outlet.lawful };
+    ghost lawful = { inverter_lawful O.lawful };
 
     fn take(&mut self, b: Bit) -> Result<(), TakeFault> {
         self.below.take(b.plus(Bit::One))

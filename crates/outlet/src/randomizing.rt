@@ -25,9 +25,9 @@ impl<O: Outlet> Randomizer<O> {
     // held now show as they are.
     pub fn over(below: O, code: Code) -> Randomizer<O>
         ensures below { result.below ≡ below }
-        ensures start { result.start ≡ length (O.Outlet.bits below) }
+        ensures start { result.start ≡ length (O.bits below) }
         ensures code { result.code ≡ code }
-        ensures bits { masked (randomizing result.start result.code) (O.Outlet.bits result.below) ≡ O.Outlet.bits below }
+        ensures bits { masked (randomizing result.start result.code) (O.bits result.below) ≡ O.bits below }
     {
         let start = below.held();
         Randomizer { below, start, code }
@@ -69,13 +69,13 @@ impl<O: Outlet> Randomizer<O> {
 }
 
 impl<O: Outlet> Outlet for Randomizer<O> {
-    ghost bits = { λ w. masked (randomizing w.start w.code) (O.Outlet.bits w.below) };
+    ghost bits = { λ w. masked (randomizing w.start w.code) (O.bits w.below) };
 
-    ghost room = { λ w. O.Outlet.room w.below };
+    ghost room = { λ w. O.room w.below };
 
-    ghost kept = { λ w v. (v.start ≡ w.start) × (v.code ≡ w.code) × O.Outlet.kept w.below v.below };
+    ghost kept = { λ w v. (v.start ≡ w.start) × (v.code ≡ w.code) × O.kept w.below v.below };
 
-    ghost lawful = { randomizer_lawful O.Outlet.lawful };
+    ghost lawful = { randomizer_lawful O.lawful };
 
     fn take(&mut self, b: Bit) -> Result<(), TakeFault> {
         let place = self.below.held();

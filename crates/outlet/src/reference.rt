@@ -7,13 +7,13 @@ use crate::interface::Outlet;
 use element::Bit;
 
 impl<'a, O: Outlet> Outlet for &'a mut O {
-    ghost bits = { λ r. O.Outlet.bits r.now };
+    ghost bits = { λ r. O.bits r.now };
 
-    ghost room = { λ r. O.Outlet.room r.now };
+    ghost room = { λ r. O.room r.now };
 
-    ghost kept = { λ r s. O.Outlet.kept r.now s.now × (s.ghost_name ≡ r.ghost_name) };
+    ghost kept = { λ r s. O.kept r.now s.now × (s.ghost_name ≡ r.ghost_name) };
 
-    ghost lawful = { reference_lawful O.Outlet.lawful };
+    ghost lawful = { reference_lawful O.lawful };
 
     fn take(&mut self, b: Bit) -> Result<(), TakeFault> {
         (**self).take(b)

@@ -14,8 +14,8 @@ mod tests;
 
 // Offers two bits to any outlet.
 pub fn put_two<O: Outlet>(o: &mut O, a: Bit, b: Bit)
-    ensures after { bits o.new ≡ taken (b ∷ []) (taken (a ∷ []) (bits o.old) (room o.old)) (room o.old) }
-    ensures rest { kept o.old o.new }
+    ensures after { O.bits o.new ≡ taken (b ∷ []) (taken (a ∷ []) (O.bits o.old) (O.room o.old)) (O.room o.old) }
+    ensures rest { O.kept o.old o.new }
 {
     let _ = o.take(a);
     let _ = o.take(b);

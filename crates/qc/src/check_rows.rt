@@ -12,7 +12,7 @@ use element::Element;
 
 // Whether the rows can be worked out and have room.
 fn has_rows<C: QuasiCyclic>(code: C, len: usize, n: usize, room: usize) -> bool
-    ensures { result ≡ rows_there (shape code) len n room }
+    ensures { result ≡ rows_there (C.shape code) len n room }
 {
     whole_len(code) <= len && room == code.segment() && n < 8
 }
@@ -20,7 +20,7 @@ fn has_rows<C: QuasiCyclic>(code: C, len: usize, n: usize, room: usize) -> bool
 // The terms of the block row that has segment n.
 fn row_terms<C: QuasiCyclic>(code: C, n: usize) -> &'static [Term]
     requires { n < 8 }
-    ensures { result.now ≡ terms (block_row (shape code) (n / 4)) }
+    ensures { result.now ≡ terms (block_row (C.shape code) (n / 4)) }
 {
     if n < 4 {
         code.first_terms()
@@ -39,8 +39,8 @@ pub fn rows_of_segment<C: QuasiCyclic, E: Element>(
     n: usize,
     rows: &mut [E],
 ) -> bool
-    ensures answer { result ≡ rows_there (shape code) (length run.now) n (length rows.old) }
-    ensures after { rows.new ≡ (if rows_there (shape code) (length run.now) n (length rows.old) then segment_rows zero plus (shape code) run.now n else rows.old) }
+    ensures answer { result ≡ rows_there (C.shape code) (length run.now) n (length rows.old) }
+    ensures after { rows.new ≡ (if rows_there (C.shape code) (length run.now) n (length rows.old) then segment_rows E.zero E.plus (C.shape code) run.now n else rows.old) }
 {
     if !has_rows(code, run.len(), n, rows.len()) {
         return false;

@@ -20,7 +20,7 @@ pub(crate) struct Product {
 // Writes `segment` to `wide`, and once more after it, so that no place past its end has to go round.
 fn write_twice<E: Element>(wide: &mut [E], segment: &[E])
     requires { length wide.old ≡ length segment.now + length segment.now }
-    ensures { (i : ℕ) → i < length segment.now + length segment.now → slice_index_or wide.new i zero ≡ slice_index_or segment.now (i % length segment.now) zero }
+    ensures { (i : ℕ) → i < length segment.now + length segment.now → slice_index_or wide.new i E.zero ≡ slice_index_or segment.now (i % length segment.now) E.zero }
 {
     let m = segment.len();
     for i in 0..m {
@@ -51,7 +51,7 @@ fn list_ones(places: &mut [usize], words: &[u32], start: usize, m: usize) -> usi
 // `held` with the 16 places of `wide` from `from` on added.
 fn sums_with<E: Element>(held: [E; 16], wide: &[E], from: usize) -> [E; 16]
     requires { from + 16 ≤ length wide.now }
-    ensures { (i : ℕ) → i < 16 → slice_index_or result i zero ≡ plus (slice_index_or held i zero) (slice_index_or wide.now (from + i) zero) }
+    ensures { (i : ℕ) → i < 16 → slice_index_or result i E.zero ≡ E.plus (slice_index_or held i E.zero) (slice_index_or wide.now (from + i) E.zero) }
 {
     let mut sums = held;
     for i in 0..16 {
@@ -63,7 +63,7 @@ fn sums_with<E: Element>(held: [E; 16], wide: &[E], from: usize) -> [E; 16]
 // For each of the 16 places from `base` on, the sum of what `wide` has each of `places` further.
 fn sums_at<E: Element>(wide: &[E], places: &[usize], base: usize) -> [E; 16]
     requires { (k : ℕ) → k < length places.now → base + slice_index places.now k + 16 ≤ length wide.now }
-    ensures { (i : ℕ) → i < 16 → slice_index_or result i zero ≡ total zero plus (λ k. get_or wide.now (base + k + i) zero) places.now }
+    ensures { (i : ℕ) → i < 16 → slice_index_or result i E.zero ≡ total E.zero E.plus (λ k. get_or wide.now (base + k + i) E.zero) places.now }
 {
     let mut sums = [E::zero(); 16];
     for k in places {
@@ -75,7 +75,7 @@ fn sums_at<E: Element>(wide: &[E], places: &[usize], base: usize) -> [E; 16]
 // Adds `more` to the 16 places of `sums` from `base` on.
 fn add_at<E: Element>(sums: &mut [E], base: usize, more: [E; 16])
     requires { base + 16 ≤ length sums.old }
-    ensures { Written zero (λ p. plus (slice_index_or sums.old p zero) (slice_index_or more (p - base) zero)) base sums.old sums.new (base + 16) }
+    ensures { Written E.zero (λ p. E.plus (slice_index_or sums.old p E.zero) (slice_index_or more (p - base) E.zero)) base sums.old sums.new (base + 16) }
 {
     for i in base..base + 16 {
         sums[i] = sums[i].plus(more[i - base]);
@@ -86,7 +86,7 @@ fn add_at<E: Element>(sums: &mut [E], base: usize, more: [E; 16])
 fn add_shifted<E: Element>(sums: &mut [E], wide: &[E], places: &[usize])
     requires sixteens { length sums.old % 16 ≡ 0 }
     requires there { (k : ℕ) → k < length places.now → slice_index places.now k + length sums.old ≤ length wide.now }
-    ensures { (i : ℕ) → i < length sums.old → slice_index_or sums.new i zero ≡ plus (slice_index_or sums.old i zero) (total zero plus (λ k. get_or wide.now (k + i) zero) places.now) }
+    ensures { (i : ℕ) → i < length sums.old → slice_index_or sums.new i E.zero ≡ E.plus (slice_index_or sums.old i E.zero) (total E.zero E.plus (λ k. get_or wide.now (k + i) E.zero) places.now) }
 {
     for b in 0..sums.len() / 16 {
         let more = sums_at(wide, places, 16 * b);
@@ -106,7 +106,7 @@ fn add_circulant<E: Element>(
 )
     requires lengths { (length sums.old ≡ length segment.now) × ((length wide.old ≡ length segment.now + length segment.now) × (length segment.now ≤ length places.old)) }
     requires words { (start + length segment.now / 32 ≤ length words.now) × ((length segment.now % 32 ≡ 0) × (length segment.now ≤ 512)) }
-    ensures { (s : ℕ) → s < length sums.old → slice_index_or sums.new s zero ≡ plus (slice_index_or sums.old s zero) (act zero plus (length segment.now) (number words.now start (length segment.now / 32)) (λ i. get_or segment.now i zero) s) }
+    ensures { (s : ℕ) → s < length sums.old → slice_index_or sums.new s E.zero ≡ E.plus (slice_index_or sums.old s E.zero) (act E.zero E.plus (length segment.now) (number words.now start (length segment.now / 32)) (λ i. get_or segment.now i E.zero) s) }
 {
     write_twice(wide, segment);
     let n = list_ones(places, words, start, segment.len());
@@ -127,7 +127,7 @@ fn sum_circulants<E: Element>(
     requires table { (product.sources * product.targets * (length sums.old / 32) ≤ length words.now) × ((length sums.old % 32 ≡ 0) × (length sums.old ≤ 512)) }
     requires there { (product.source + product.sources) * length sums.old ≤ length run.now }
     requires target { q < product.targets }
-    ensures { (s : ℕ) → s < length sums.old → slice_index_or sums.new s zero ≡ product_at zero plus (length sums.old) words.now product (segments zero (length sums.old) run.now) q s }
+    ensures { (s : ℕ) → s < length sums.old → slice_index_or sums.new s E.zero ≡ product_at E.zero E.plus (length sums.old) words.now product (segments E.zero (length sums.old) run.now) q s }
 {
     let m = sums.len();
     clear(sums);
@@ -151,7 +151,7 @@ pub(crate) fn write_product<E: Element>(
     requires table { (product.sources * product.targets * (length sums.old / 32) ≤ length words.now) × ((length sums.old % 32 ≡ 0) × (length sums.old ≤ 512)) }
     requires apart { product.source + product.sources ≤ product.target }
     requires there { (product.target + product.targets) * length sums.old ≤ length run.old }
-    ensures { Written zero (λ p. product_at zero plus (length sums.old) words.now product (segments zero (length sums.old) run.old) ((p - product.target * length sums.old) / length sums.old) ((p - product.target * length sums.old) % length sums.old)) (product.target * length sums.old) run.old run.new (product.target * length sums.old + product.targets * length sums.old) }
+    ensures { Written E.zero (λ p. product_at E.zero E.plus (length sums.old) words.now product (segments E.zero (length sums.old) run.old) ((p - product.target * length sums.old) / length sums.old) ((p - product.target * length sums.old) % length sums.old)) (product.target * length sums.old) run.old run.new (product.target * length sums.old + product.targets * length sums.old) }
 {
     let m = sums.len();
     for q in 0..product.targets {

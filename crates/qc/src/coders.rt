@@ -18,12 +18,12 @@ use element::Element;
 // block so turned.
 pub trait Coder {
     fn encode<C: QuasiCyclic, E: Element>(&self, code: C, run: &mut [E]) -> Result<(), RunFault>
-        ensures answer { outcome run_fault result ≡ encode_answer zero plus (shape code) (tables code) run.old }
-        ensures after { run.new ≡ encoded_run zero plus (shape code) (tables code) run.old }
-        ensures coded { whole (shape code) ≤ length run.old → Coded zero plus (shape code) (tables code) run.old }
-        ensures linear { Linear zero plus (shape code) (tables code) }
-        ensures zeros { ZeroBlock zero plus (shape code) (tables code) }
-        ensures turns { Turns zero plus (shape code) (tables code) };
+        ensures answer { outcome run_fault result ≡ encode_answer E.zero E.plus (C.shape code) (C.tables code) run.old }
+        ensures after { run.new ≡ encoded_run E.zero E.plus (C.shape code) (C.tables code) run.old }
+        ensures coded { whole (C.shape code) ≤ length run.old → Coded E.zero E.plus (C.shape code) (C.tables code) run.old }
+        ensures linear { Linear E.zero E.plus (C.shape code) (C.tables code) }
+        ensures zeros { ZeroBlock E.zero E.plus (C.shape code) (C.tables code) }
+        ensures turns { Turns E.zero E.plus (C.shape code) (C.tables code) };
 }
 
 // Codes by the generator table.
@@ -41,9 +41,9 @@ fn encode_by_table<C: QuasiCyclic, E: Element>(
     wide: &mut [E],
     places: &mut [usize],
 )
-    requires there { whole (shape code) ≤ length run.old }
-    requires room { (length sums.old ≡ (shape code).m) × ((length wide.old ≡ (shape code).m + (shape code).m) × ((shape code).m ≤ length places.old)) }
-    ensures { run.new ≡ encoded zero plus (shape code) (tables code) run.old }
+    requires there { whole (C.shape code) ≤ length run.old }
+    requires room { (length sums.old ≡ (C.shape code).m) × ((length wide.old ≡ (C.shape code).m + (C.shape code).m) × ((C.shape code).m ≤ length places.old)) }
+    ensures { run.new ≡ encoded E.zero E.plus (C.shape code) (C.tables code) run.old }
 {
     let segments = 4 * code.message_groups();
     let product = Product {
@@ -63,9 +63,9 @@ fn encode_by_rows<C: QuasiCyclic, E: Element>(
     wide: &mut [E],
     places: &mut [usize],
 )
-    requires there { whole (shape code) ≤ length run.old }
-    requires room { (length sums.old ≡ (shape code).m) × ((length wide.old ≡ (shape code).m + (shape code).m) × ((shape code).m ≤ length places.old)) }
-    ensures { run.new ≡ encoded zero plus (shape code) (tables code) run.old }
+    requires there { whole (C.shape code) ≤ length run.old }
+    requires room { (length sums.old ≡ (C.shape code).m) × ((length wide.old ≡ (C.shape code).m + (C.shape code).m) × ((C.shape code).m ≤ length places.old)) }
+    ensures { run.new ≡ encoded E.zero E.plus (C.shape code) (C.tables code) run.old }
 {
     let table = code.table();
     let groups = code.message_groups();
@@ -98,9 +98,9 @@ fn encode_in<C: QuasiCyclic, E: Element>(
     wide: &mut [E],
     places: &mut [usize],
 )
-    requires there { whole (shape code) ≤ length run.old }
-    requires room { (length sums.old ≡ (shape code).m) × ((length wide.old ≡ (shape code).m + (shape code).m) × ((shape code).m ≤ length places.old)) }
-    ensures { run.new ≡ encoded zero plus (shape code) (tables code) run.old }
+    requires there { whole (C.shape code) ≤ length run.old }
+    requires room { (length sums.old ≡ (C.shape code).m) × ((length wide.old ≡ (C.shape code).m + (C.shape code).m) × ((C.shape code).m ≤ length places.old)) }
+    ensures { run.new ≡ encoded E.zero E.plus (C.shape code) (C.tables code) run.old }
 {
     match way {
         Way::Table => encode_by_table(code, run, sums, wide, places),
@@ -111,12 +111,12 @@ fn encode_in<C: QuasiCyclic, E: Element>(
 const LONGEST_TWICE: usize = 2 * LONGEST_SEGMENT;
 
 fn encode_with<C: QuasiCyclic, E: Element>(way: Way, code: C, run: &mut [E]) -> Result<(), RunFault>
-    ensures answer { outcome run_fault result ≡ encode_answer zero plus (shape code) (tables code) run.old }
-    ensures after { run.new ≡ encoded_run zero plus (shape code) (tables code) run.old }
-    ensures coded { whole (shape code) ≤ length run.old → Coded zero plus (shape code) (tables code) run.old }
-    ensures linear { Linear zero plus (shape code) (tables code) }
-    ensures zeros { ZeroBlock zero plus (shape code) (tables code) }
-    ensures turns { Turns zero plus (shape code) (tables code) }
+    ensures answer { outcome run_fault result ≡ encode_answer E.zero E.plus (C.shape code) (C.tables code) run.old }
+    ensures after { run.new ≡ encoded_run E.zero E.plus (C.shape code) (C.tables code) run.old }
+    ensures coded { whole (C.shape code) ≤ length run.old → Coded E.zero E.plus (C.shape code) (C.tables code) run.old }
+    ensures linear { Linear E.zero E.plus (C.shape code) (C.tables code) }
+    ensures zeros { ZeroBlock E.zero E.plus (C.shape code) (C.tables code) }
+    ensures turns { Turns E.zero E.plus (C.shape code) (C.tables code) }
 {
     if run.len() < whole_len(code) {
         return Err(RunFault::TooShort);

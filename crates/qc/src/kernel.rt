@@ -8,7 +8,7 @@ use element::Element;
 
 // Writes zero into each place.
 pub(crate) fn clear<E: Element>(sums: &mut [E])
-    ensures { (s : ℕ) → s < length sums.old → slice_index_or sums.new s zero ≡ zero }
+    ensures { (s : ℕ) → s < length sums.old → slice_index_or sums.new s E.zero ≡ E.zero }
 {
     for i in 0..sums.len() {
         sums[i] = E::zero();
@@ -19,7 +19,7 @@ pub(crate) fn clear<E: Element>(sums: &mut [E])
 fn add_rotated<E: Element>(sums: &mut [E], segment: &[E], shift: usize)
     requires lengths { length sums.old ≡ length segment.now }
     requires within { shift < length segment.now }
-    ensures { (s : ℕ) → s < length sums.old → slice_index_or sums.new s zero ≡ plus (slice_index_or sums.old s zero) (slice_index_or segment.now ((s + shift) % length segment.now) zero) }
+    ensures { (s : ℕ) → s < length sums.old → slice_index_or sums.new s E.zero ≡ E.plus (slice_index_or sums.old s E.zero) (slice_index_or segment.now ((s + shift) % length segment.now) E.zero) }
 {
     let m = segment.len();
     let cut = m - shift;
@@ -35,7 +35,7 @@ fn add_rotated<E: Element>(sums: &mut [E], segment: &[E], shift: usize)
 fn add_term<E: Element>(sums: &mut [E], run: &[E], table: &[Permutation], t: Term, j: usize)
     requires readable { Readable (length sums.old) (length run.now) table.now t }
     requires quarter { j < 4 }
-    ensures { (s : ℕ) → s < length sums.old → slice_index_or sums.new s zero ≡ plus (slice_index_or sums.old s zero) (term_at (length sums.old) table.now (segments zero (length sums.old) run.now) j s t) }
+    ensures { (s : ℕ) → s < length sums.old → slice_index_or sums.new s E.zero ≡ E.plus (slice_index_or sums.old s E.zero) (term_at (length sums.old) table.now (segments E.zero (length sums.old) run.now) j s t) }
 {
     let m = sums.len();
     let p = table[t.permutation];
@@ -53,7 +53,7 @@ pub(crate) fn sum_segment<E: Element>(
 )
     requires readable { AllReadable (length sums.old) (length run.now) table.now terms.now }
     requires quarter { j < 4 }
-    ensures { (s : ℕ) → s < length sums.old → slice_index_or sums.new s zero ≡ segment_sum zero plus (length sums.old) table.now terms.now (segments zero (length sums.old) run.now) j s }
+    ensures { (s : ℕ) → s < length sums.old → slice_index_or sums.new s E.zero ≡ segment_sum E.zero E.plus (length sums.old) table.now terms.now (segments E.zero (length sums.old) run.now) j s }
 {
     clear(sums);
     for t in terms {
@@ -63,7 +63,7 @@ pub(crate) fn sum_segment<E: Element>(
 
 // Whether each place is zero. The loop does not stop early, so that it runs over whole vectors.
 fn all_zero<E: Element>(sums: &[E]) -> bool
-    ensures { result ≡ every (λ s. same (slice_index_or sums.now s zero) zero) (length sums.now) }
+    ensures { result ≡ every (λ s. E.same (slice_index_or sums.now s E.zero) E.zero) (length sums.now) }
 {
     let zero = E::zero();
     let mut clean = true;
@@ -75,7 +75,7 @@ fn all_zero<E: Element>(sums: &[E]) -> bool
 
 // The lowest place that is not zero.
 fn lowest_nonzero<E: Element>(sums: &[E]) -> Option<usize>
-    ensures { result ≡ lowest (λ s. same (slice_index_or sums.now s zero) zero) (length sums.now) }
+    ensures { result ≡ lowest (λ s. E.same (slice_index_or sums.now s E.zero) E.zero) (length sums.now) }
 {
     if all_zero(sums) {
         return None;
@@ -98,7 +98,7 @@ pub(crate) fn lowest_row<E: Element>(
 ) -> Option<usize>
     requires short { length sums.old ≤ 512 }
     requires readable { AllReadable (length sums.old) (length run.now) table.now terms.now }
-    ensures { result ≡ lowest (λ i. same (segment_sum zero plus (length sums.old) table.now terms.now (segments zero (length sums.old) run.now) (i / length sums.old) (i % length sums.old)) zero) (4 * length sums.old) }
+    ensures { result ≡ lowest (λ i. E.same (segment_sum E.zero E.plus (length sums.old) table.now terms.now (segments E.zero (length sums.old) run.now) (i / length sums.old) (i % length sums.old)) E.zero) (4 * length sums.old) }
 {
     let m = sums.len();
     for j in 0..4 {
@@ -113,9 +113,9 @@ pub(crate) fn lowest_row<E: Element>(
 // Writes `sums` over the places of `run` from `from` on.
 pub(crate) fn write_segment<E: Element>(run: &mut [E], from: usize, sums: &[E])
     requires { from + length sums.now ≤ length run.old }
-    ensures before { (p : ℕ) → p < from → slice_index_or run.new p zero ≡ slice_index_or run.old p zero }
-    ensures made { (i : ℕ) → i < length sums.now → slice_index_or run.new (from + i) zero ≡ slice_index_or sums.now i zero }
-    ensures rest { (p : ℕ) → from + length sums.now ≤ p → slice_index_or run.new p zero ≡ slice_index_or run.old p zero }
+    ensures before { (p : ℕ) → p < from → slice_index_or run.new p E.zero ≡ slice_index_or run.old p E.zero }
+    ensures made { (i : ℕ) → i < length sums.now → slice_index_or run.new (from + i) E.zero ≡ slice_index_or sums.now i E.zero }
+    ensures rest { (p : ℕ) → from + length sums.now ≤ p → slice_index_or run.new p E.zero ≡ slice_index_or run.old p E.zero }
 {
     run[from..from + sums.len()].copy_from_slice(sums);
 }
@@ -132,7 +132,7 @@ pub(crate) fn write_group<E: Element>(
     requires readable { AllReadable (length sums.old) (length run.old) table.now terms.now }
     requires apart { AllApart (length sums.old) from terms.now }
     requires there { from + 4 * length sums.old ≤ length run.old }
-    ensures { Written zero (λ p. segment_sum zero plus (length sums.old) table.now terms.now (segments zero (length sums.old) run.old) ((p - from) / length sums.old) ((p - from) % length sums.old)) from run.old run.new (from + 4 * length sums.old) }
+    ensures { Written E.zero (λ p. segment_sum E.zero E.plus (length sums.old) table.now terms.now (segments E.zero (length sums.old) run.old) ((p - from) / length sums.old) ((p - from) % length sums.old)) from run.old run.new (from + 4 * length sums.old) }
 {
     let m = sums.len();
     for j in 0..4 {

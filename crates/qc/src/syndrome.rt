@@ -18,16 +18,16 @@ pub(crate) const LONGEST_SEGMENT: usize = 512;
 
 // How many elements a whole block has, its punctured group included.
 pub(crate) fn whole_len<C: QuasiCyclic>(code: C) -> usize
-    ensures { result ≡ whole (shape code) }
+    ensures { result ≡ whole (C.shape code) }
 {
     (code.message_groups() + 3) * (4 * code.segment())
 }
 
 // Writes the punctured group of the block at the front of `run` behind it.
 pub(crate) fn complete<C: QuasiCyclic, E: Element>(code: C, run: &mut [E], sums: &mut [E])
-    requires there { whole (shape code) ≤ length run.old }
-    requires segment { length sums.old ≡ (shape code).m }
-    ensures { run.new ≡ completed zero plus (shape code) run.old }
+    requires there { whole (C.shape code) ≤ length run.old }
+    requires segment { length sums.old ≡ (C.shape code).m }
+    ensures { run.new ≡ completed E.zero E.plus (C.shape code) run.old }
 {
     let from = (code.message_groups() + 2) * (4 * sums.len());
     write_group(run, sums, code.table(), code.known_terms(), from);
@@ -35,9 +35,9 @@ pub(crate) fn complete<C: QuasiCyclic, E: Element>(code: C, run: &mut [E], sums:
 
 // The lowest of the rows of the first two block rows that is not zero.
 fn lowest_failing<C: QuasiCyclic, E: Element>(code: C, run: &[E], sums: &mut [E]) -> Option<usize>
-    requires there { whole (shape code) ≤ length run.now }
-    requires segment { length sums.old ≡ (shape code).m }
-    ensures { result ≡ lowest (λ i. same (row zero plus (shape code) (groups zero (M (shape code)) run.now) i) zero) (2 * M (shape code)) }
+    requires there { whole (C.shape code) ≤ length run.now }
+    requires segment { length sums.old ≡ (C.shape code).m }
+    ensures { result ≡ lowest (λ i. E.same (row E.zero E.plus (C.shape code) (groups E.zero (M (C.shape code)) run.now) i) E.zero) (2 * M (C.shape code)) }
 {
     let group = 4 * sums.len();
     if let Some(r) = lowest_row(sums, run, code.table(), code.first_terms()) {
@@ -54,11 +54,11 @@ fn lowest_failing<C: QuasiCyclic, E: Element>(code: C, run: &[E], sums: &mut [E]
 // zero, which is then the one that was written, and exactly when both coders make its parity from its
 // message.
 pub fn check<C: QuasiCyclic, E: Element>(code: C, run: &mut [E]) -> Result<Verdict, RunFault>
-    ensures answer { outcome run_fault result ≡ check_answer zero plus (shape code) same run.old }
-    ensures after { run.new ≡ checked_run zero plus (shape code) run.old }
-    ensures passes { whole (shape code) ≤ length run.old → (result ≡ Ok Passes ↔ Codeblock zero plus (shape code) (groups zero (M (shape code)) run.old)) }
-    ensures only { (w : ℕ → E) → AllZero zero plus (shape code) (completed_by zero plus (shape code) (groups zero (M (shape code)) run.old) w) → (i : ℕ) → i < M (shape code) → w i ≡ punctured zero plus (shape code) (groups zero (M (shape code)) run.old) i }
-    ensures coders { whole (shape code) ≤ length run.old → (result ≡ Ok Passes ↔ Reproduced zero plus (shape code) (tables code) run.old) }
+    ensures answer { outcome run_fault result ≡ check_answer E.zero E.plus (C.shape code) E.same run.old }
+    ensures after { run.new ≡ checked_run E.zero E.plus (C.shape code) run.old }
+    ensures passes { whole (C.shape code) ≤ length run.old → (result ≡ Ok Passes ↔ Codeblock E.zero E.plus (C.shape code) (groups E.zero (M (C.shape code)) run.old)) }
+    ensures only { (w : ℕ → E) → AllZero E.zero E.plus (C.shape code) (completed_by E.zero E.plus (C.shape code) (groups E.zero (M (C.shape code)) run.old) w) → (i : ℕ) → i < M (C.shape code) → w i ≡ punctured E.zero E.plus (C.shape code) (groups E.zero (M (C.shape code)) run.old) i }
+    ensures coders { whole (C.shape code) ≤ length run.old → (result ≡ Ok Passes ↔ Reproduced E.zero E.plus (C.shape code) (C.tables code) run.old) }
 {
     if run.len() < whole_len(code) {
         return Err(RunFault::TooShort);

@@ -19,7 +19,7 @@ loop-i-preserved g c =
         w.differ-is ∙ one_more (λ k. get_or held (place + k) Zero) mark i c.loop-i.differ _ _ _ _ c.loop-i.invariant.0 w.weight-of.ensures.value w.plus.ensures (bit_got held (place + i) (omega (arith, c.requires.held)) _ w.in-Ok.ensures) w.marker-bit.ensures,
         omega (arith, w.differ-is, c.loop-i.invariant.1, w.weight-of.ensures.small),
       )
-      | in-default w ↦ absurd (never_lost held (place + i) (omega (arith, c.requires.held)) _ w.in-default.ensures)
+      | in-default w ↦ absurd (never_lost held (place + i) (omega (arith, c.requires.held)) _ w.in_default.ensures)
     ]
 
 pub returns : goal.returns

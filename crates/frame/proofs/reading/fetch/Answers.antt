@@ -19,5 +19,5 @@ loop-i-preserved g c =
           ∙ ap (λ (z : List Bit). set z i w.plus-in-Ok.result) c.loop-i.invariant
           ∙ filled_more (received_bit c.args.turn held c.args.place) c.args.run.now Zero i w.plus-in-Ok.result (omega (arith, c.requires.run))
           (w.plus-in-Ok.ensures ∙ ap (λ (b : Bit). bit_plus b c.args.turn) (w.plus.ensures ∙ ap₂ bit_plus (bit_got held here (omega (arith, c.requires.held)) _ w.in-Ok.ensures) w.randomizing-bit.ensures))
-      | in-default w ↦ absurd (never_lost held here (omega (arith, c.requires.held)) _ w.in-default.ensures)
+      | in-default w ↦ absurd (never_lost held here (omega (arith, c.requires.held)) _ w.in_default.ensures)
     ]

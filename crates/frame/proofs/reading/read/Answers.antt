@@ -35,9 +35,9 @@ returns-in-default-find-marker g c =
     let message = c.args.message.now in
     let run = c.args.run.now in
     let nothing : None ≡ due (length held) c.args.place c.args.code c.args.tolerance (length message) (length run)
-    = c.in-default.ensures ∙ ap (λ n. due n c.args.place c.args.code c.args.tolerance (length message) (length run)) c.held.ensures in
+    = c.in_default.ensures ∙ ap (λ n. due n c.args.place c.args.code c.args.tolerance (length message) (length run)) c.held.ensures in
     let lawful = admitted (length held) c.args.place c.args.code c.args.tolerance (length message) (length run) nothing in
-    let none = c.in-default-find-marker.ensures in
+    let none = c.in_default-find-marker.ensures in
     record {
       answer = answer_is held c.args.place c.args.code c.args.tolerance message run _ nothing _ none;
       run = run_is held c.args.place c.args.code c.args.tolerance message run _ nothing _ none;
@@ -47,7 +47,7 @@ returns-in-default-find-marker g c =
     }
 
 pub fetch-requires : goal.fetch-requires
-fetch-requires g c = let lawful = admitted c.held.result c.args.place c.args.code c.args.tolerance (length c.args.message.now) (length c.args.run.now) c.in-default.ensures in
+fetch-requires g c = let lawful = admitted c.held.result c.args.place c.args.code c.args.tolerance (length c.args.message.now) (length c.args.run.now) c.in_default.ensures in
     record {
       run = omega (arith, c.block-len.ensures, sent_within c.args.code, lawful.run_long);
       held = omega (arith, c.block-len.ensures, lawful.there, c.held.ensures);
@@ -55,7 +55,7 @@ fetch-requires g c = let lawful = admitted c.held.result c.args.place c.args.cod
     }
 
 pub gather-requires : goal.gather-requires
-gather-requires g c = let lawful = admitted c.held.result c.args.place c.args.code c.args.tolerance (length c.args.message.now) (length c.args.run.now) c.in-default.ensures in
+gather-requires g c = let lawful = admitted c.held.result c.args.place c.args.code c.args.tolerance (length c.args.message.now) (length c.args.run.now) c.in_default.ensures in
     omega (arith, lawful.message_long, lawful.run_long, message_within c.args.code, c.check.auto.run, c.fetch.auto.run)
 
 pub returns-in-Passes : goal.returns-in-Passes
@@ -66,7 +66,7 @@ returns-in-Passes g c =
     let message = c.args.message.now in
     let run = c.args.run.now in
     let nothing : None ≡ due (length held) place code c.args.tolerance (length message) (length run)
-    = c.in-default.ensures ∙ ap (λ n. due n place code c.args.tolerance (length message) (length run)) c.held.ensures in
+    = c.in_default.ensures ∙ ap (λ n. due n place code c.args.tolerance (length message) (length run)) c.held.ensures in
     let lawful = admitted (length held) c.args.place c.args.code c.args.tolerance (length message) (length run) nothing in
     let way = c.in-Some-find-marker.orientation in
     let d = c.in-Some-find-marker.distance in
@@ -95,7 +95,7 @@ returns-in-Fails g c =
     let message = c.args.message.now in
     let run = c.args.run.now in
     let nothing : None ≡ due (length held) place code c.args.tolerance (length message) (length run)
-    = c.in-default.ensures ∙ ap (λ n. due n place code c.args.tolerance (length message) (length run)) c.held.ensures in
+    = c.in_default.ensures ∙ ap (λ n. due n place code c.args.tolerance (length message) (length run)) c.held.ensures in
     let lawful = admitted (length held) c.args.place c.args.code c.args.tolerance (length message) (length run) nothing in
     let way = c.in-Some-find-marker.orientation in
     let d = c.in-Some-find-marker.distance in

@@ -6,48 +6,48 @@ use Rattle.qc.proofs.Reach.{held, row_below, length_part, get_d_part}
 use Rattle.qc.proofs.FirstRows.{act_same}
 use Rattle.qc.proofs.circulant.sum_circulants.Goals as goal
 
-pub overflow-add-from : goal.overflow-add-from
-overflow-add-from g c =
+pub overflow_add-from : goal.overflow_add-from
+overflow_add-from g c =
     let h = (held (c.args.product.source + c.loop-r.r) (c.args.product.source + c.args.product.sources) (length c.args.sums.now) (length c.args.run.now) (omega (arith, c.loop-r-test.true)) c.requires.lengths.1.1 c.requires.there).number in
     search rules
 
-pub overflow-mul-from : goal.overflow-mul-from
-overflow-mul-from g c =
+pub overflow_mul-from : goal.overflow_mul-from
+overflow_mul-from g c =
     let h = (held (c.args.product.source + c.loop-r.r) (c.args.product.source + c.args.product.sources) (length c.args.sums.now) (length c.args.run.now) (omega (arith, c.loop-r-test.true)) c.requires.lengths.1.1 c.requires.there).place in
     search rules
 
-pub overflow-mul-start : goal.overflow-mul-start
-overflow-mul-start g c =
+pub overflow_mul-start : goal.overflow_mul-start
+overflow_mul-start g c =
     let p = c.args.product in
     let wide : 0 < length c.args.sums.now / 32 = omega (arith, c.requires.lengths.1.1, c.requires.table.1.0) in
     let h = (held (p.targets * c.loop-r.r + c.args.q) (p.sources * p.targets) (length c.args.sums.now / 32) (length c.args.words.now) (row_below p.targets c.loop-r.r c.args.q p.sources c.loop-r-test.true c.requires.target) wide c.requires.table.0).number in
     search rules
 
-pub overflow-add-start : goal.overflow-add-start
-overflow-add-start g c =
+pub overflow_add-start : goal.overflow_add-start
+overflow_add-start g c =
     let p = c.args.product in
     let wide : 0 < length c.args.sums.now / 32 = omega (arith, c.requires.lengths.1.1, c.requires.table.1.0) in
     let h = (held (p.targets * c.loop-r.r + c.args.q) (p.sources * p.targets) (length c.args.sums.now / 32) (length c.args.words.now) (row_below p.targets c.loop-r.r c.args.q p.sources c.loop-r-test.true c.requires.target) wide c.requires.table.0).number in
     search rules
 
-pub overflow-mul-start-in-loop-r : goal.overflow-mul-start-in-loop-r
-overflow-mul-start-in-loop-r g c =
+pub overflow_mul-start-in-loop-r : goal.overflow_mul-start-in-loop-r
+overflow_mul-start-in-loop-r g c =
     let p = c.args.product in
     let wide : 0 < length c.args.sums.now / 32 = omega (arith, c.requires.lengths.1.1, c.requires.table.1.0) in
     let h = (held (p.targets * c.loop-r.r + c.args.q) (p.sources * p.targets) (length c.args.sums.now / 32) (length c.args.words.now) (row_below p.targets c.loop-r.r c.args.q p.sources c.loop-r-test.true c.requires.target) wide c.requires.table.0).place in
     search rules
 
-pub overflow-add-from-in-loop-r : goal.overflow-add-from-in-loop-r
-overflow-add-from-in-loop-r g c =
+pub overflow_add-from-in-loop-r : goal.overflow_add-from-in-loop-r
+overflow_add-from-in-loop-r g c =
     let h = (held (c.args.product.source + c.loop-r.r) (c.args.product.source + c.args.product.sources) (length c.args.sums.now) (length c.args.run.now) (omega (arith, c.loop-r-test.true)) c.requires.lengths.1.1 c.requires.there).part in
     search rules
 
-pub slice-bounds-add-circulant-end : goal.slice-bounds-add-circulant-end
-slice-bounds-add-circulant-end g c =
+pub slice_bounds-add_circulant-end : goal.slice_bounds-add_circulant-end
+slice_bounds-add_circulant-end g c =
     (held (c.args.product.source + c.loop-r.r) (c.args.product.source + c.args.product.sources) (length c.args.sums.now) (length c.args.run.now) (omega (arith, c.loop-r-test.true)) c.requires.lengths.1.1 c.requires.there).part
 
-pub add-circulant-requires : goal.add-circulant-requires
-add-circulant-requires g c =
+pub add_circulant-requires : goal.add_circulant-requires
+add_circulant-requires g c =
     let p = c.args.product in
     let m = length c.args.sums.now in
     let run = c.args.run.now in
@@ -75,7 +75,7 @@ loop-r-preserved g c = λ s h.
     let fits = (held (p.source + r) (p.source + p.sources) m (length run) (omega (arith, c.loop-r-test.true)) c.requires.lengths.1.1 c.requires.there).part in
     let long = length_part from m run fits in
     let start = (p.targets * r + c.args.q) * (m / 32) in
-    c.add-circulant.ensures s (omega (arith, c.loop-r.auto.sums, c.clear.auto.sums))
+    c.add_circulant.ensures s (omega (arith, c.loop-r.auto.sums, c.clear.auto.sums))
     ∙ ap₂ e.plus (c.loop-r.invariant s h)
     (ap (λ n. act e.zero e.plus n (number c.args.words.now start (n / 32)) (λ i. get_or part i e.zero) s) long
     ∙ act_same e.laws m (number c.args.words.now start (m / 32)) (λ i. get_or part i e.zero) (segments e.zero m run (p.source + r)) s (λ i l. get_d_part from m run i e.zero l))
@@ -89,6 +89,6 @@ returns g c = λ s h.
     let all : c.loop-r.r ≡ p.sources = omega (arith, c.loop-r-test.false, c.loop-r.auto.r-end) in
     c.loop-r.invariant s h ∙ ap (λ n. sum e.zero e.plus n (λ r. act e.zero e.plus m (first_row m c.args.words.now (p.targets * r + c.args.q)) (segments e.zero m c.args.run.now (p.source + r)) s)) all
 
-pub offset-bounds-run-from : goal.offset-bounds-run-from
-offset-bounds-run-from g c =
+pub offset_bounds-run-from : goal.offset_bounds-run-from
+offset_bounds-run-from g c =
     (held (c.args.product.source + c.loop-r.r) (c.args.product.source + c.args.product.sources) (length c.args.sums.now) (length c.args.run.now) (omega (arith, c.loop-r-test.true)) c.requires.lengths.1.1 c.requires.there).place

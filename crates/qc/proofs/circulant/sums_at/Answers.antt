@@ -6,7 +6,7 @@ use Rattle.qc.proofs.circulant.sums_at.Goals as goal
 pub loop-k-preserved : goal.loop-k-preserved
 loop-k-preserved g c i h =
     let e = g.E.Element in
-    c.sums-with-sums.ensures i h
+    c.sums_with-sums.ensures i h
     ∙ ap (λ x. e.plus x (get_or c.args.wide.now (c.args.base + get_or c.args.places.now c.loop-k.k-index 0 + i) e.zero)) (c.loop-k.invariant i h)
     ∙ sym (total_more e.laws (λ k. get_or c.args.wide.now (c.args.base + k + i) e.zero) c.args.places.now c.loop-k.k-index 0 c.loop-k-test.true)
 

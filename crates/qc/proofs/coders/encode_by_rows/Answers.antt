@@ -12,72 +12,72 @@ use Rattle.qc.proofs.SegmentWrites.{SegmentsWritten, group_written, factors, Mul
 use Rattle.qc.proofs.ByRows.{made_by_rows}
 use Rattle.qc.proofs.coders.encode_by_rows.Goals as goal
 
-pub overflow-add-groups : goal.overflow-add-groups
-overflow-add-groups g c =
+pub overflow_add-groups : goal.overflow_add-groups
+overflow_add-groups g c =
     let few = (sounds _ (g.C.QuasiCyclic.lawful c.args.code)).few in
     search rules
 
-pub overflow-mul-product : goal.overflow-mul-product
-overflow-mul-product g c =
+pub overflow_mul-product : goal.overflow_mul-product
+overflow_mul-product g c =
     let few = (sounds _ (g.C.QuasiCyclic.lawful c.args.code)).few in
-    let is = c.message-groups-groups.ensures in
+    let is = c.message_groups-groups.ensures in
     search rules
 
-pub overflow-add-product : goal.overflow-add-product
-overflow-add-product g c =
+pub overflow_add-product : goal.overflow_add-product
+overflow_add-product g c =
     let few = (sounds _ (g.C.QuasiCyclic.lawful c.args.code)).few in
-    let is = c.message-groups-groups.ensures in
+    let is = c.message_groups-groups.ensures in
     search rules
 
-pub overflow-mul-product-2 : goal.overflow-mul-product-2
-overflow-mul-product-2 g c =
+pub overflow_mul-product-2 : goal.overflow_mul-product-2
+overflow_mul-product-2 g c =
     let few = (sounds _ (g.C.QuasiCyclic.lawful c.args.code)).few in
-    let is = c.message-groups-groups.ensures in
+    let is = c.message_groups-groups.ensures in
     search rules
 
-pub write-group-requires : goal.write-group-requires
-write-group-requires g c =
+pub write_group-requires : goal.write_group-requires
+write_group-requires g c =
     let e = g.E.Element in
     let shape = g.C.QuasiCyclic.shape c.args.code in
     let ok = sounds shape (g.C.QuasiCyclic.lawful c.args.code) in
     let more = group_more e.zero e.plus shape c.args.run.now c.requires.there in
     let all = parts e.laws shape ok (g.C.QuasiCyclic.tables c.args.code) in
-    let is : (c.message-groups-groups.result + 2) * (4 * c.segment-group.result) ≡ (shape.K + 2) * M shape = ap₂ (λ k m. (k + 2) * (4 * m)) c.message-groups-groups.ensures c.segment-group.ensures in
+    let is : (c.message_groups-groups.result + 2) * (4 * c.segment-group.result) ≡ (shape.K + 2) * M shape = ap₂ (λ k m. (k + 2) * (4 * m)) c.message_groups-groups.ensures c.segment-group.ensures in
     record {
       short = omega (arith, ok.short, c.requires.room.0);
-      readable = readable_given shape ok shape.u3 shape.K _ (omega (arith, more, all, c.requires.there)) ok.u3_sound _ _ _ c.requires.room.0 c.table-table.ensures c.message-terms.ensures;
-      apart = apart_given shape shape.u3 _ (message_apart shape ok) _ _ c.table-table.result.now _ c.requires.room.0 c.table-table.ensures c.message-terms.ensures is;
+      readable = readable_given shape ok shape.u3 shape.K _ (omega (arith, more, all, c.requires.there)) ok.u3_sound _ _ _ c.requires.room.0 c.table-table.ensures c.message_terms.ensures;
+      apart = apart_given shape shape.u3 _ (message_apart shape ok) _ _ c.table-table.result.now _ c.requires.room.0 c.table-table.ensures c.message_terms.ensures is;
       there = omega (arith, more, is, c.requires.room.0, c.requires.there);
     }
 
-pub write-group-requires-2 : goal.write-group-requires-2
-write-group-requires-2 g c =
+pub write_group-requires-2 : goal.write_group-requires-2
+write_group-requires-2 g c =
     let e = g.E.Element in
     let shape = g.C.QuasiCyclic.shape c.args.code in
     let ok = sounds shape (g.C.QuasiCyclic.lawful c.args.code) in
     let more = group_more e.zero e.plus shape c.args.run.now c.requires.there in
     let all = parts e.laws shape ok (g.C.QuasiCyclic.tables c.args.code) in
-    let m = c.write-group.auto.sums ∙ c.requires.room.0 in
-    let is : c.message-groups-groups.result * (4 * c.segment-group.result) ≡ shape.K * M shape = ap₂ (λ k m. k * (4 * m)) c.message-groups-groups.ensures c.segment-group.ensures in
+    let m = c.write_group.auto.sums ∙ c.requires.room.0 in
+    let is : c.message_groups-groups.result * (4 * c.segment-group.result) ≡ shape.K * M shape = ap₂ (λ k m. k * (4 * m)) c.message_groups-groups.ensures c.segment-group.ensures in
     record {
       short = omega (arith, ok.short, m);
-      readable = readable_given shape ok (asked shape) (shape.K + 3) _ (omega (arith, c.requires.there, c.write-group.auto.run)) (asked_sound shape ok) _ _ _ m c.table-table.ensures c.asked-terms.ensures;
-      apart = apart_given shape (asked shape) _ (asked_apart shape ok) _ _ c.table-table.result.now _ m c.table-table.ensures c.asked-terms.ensures is;
-      there = omega (arith, more, all, is, m, c.write-group.auto.run, c.requires.there);
+      readable = readable_given shape ok (asked shape) (shape.K + 3) _ (omega (arith, c.requires.there, c.write_group.auto.run)) (asked_sound shape ok) _ _ _ m c.table-table.ensures c.asked_terms.ensures;
+      apart = apart_given shape (asked shape) _ (asked_apart shape ok) _ _ c.table-table.result.now _ m c.table-table.ensures c.asked_terms.ensures is;
+      there = omega (arith, more, all, is, m, c.write_group.auto.run, c.requires.there);
     }
 
-pub write-product-requires : goal.write-product-requires
-write-product-requires g c =
+pub write_product-requires : goal.write_product-requires
+write_product-requires g c =
     let e = g.E.Element in
     let shape = g.C.QuasiCyclic.shape c.args.code in
     let tables = g.C.QuasiCyclic.tables c.args.code in
     let ok = sounds shape (g.C.QuasiCyclic.lawful c.args.code) in
     let hold = tables_hold shape tables (g.C.QuasiCyclic.ruled c.args.code) in
-    let k = c.message-groups-groups.result in
-    let m : length c.write-group-2.new.sums ≡ shape.m = c.write-group-2.auto.sums ∙ c.write-group.auto.sums ∙ c.requires.room.0 in
-    let long : length c.write-group-2.new.run ≡ length c.args.run.now = c.write-group-2.auto.run ∙ c.write-group.auto.run in
-    let eight : 4 * (k + 1) + 4 ≡ 4 * (shape.K + 2) = omega (arith, c.message-groups-groups.ensures) in
-    let ends : (4 * (k + 1) + 4) * length c.write-group-2.new.sums ≡ 4 * (shape.K + 2) * shape.m = ap₂ (λ n k. n * k) eight m in
+    let k = c.message_groups-groups.result in
+    let m : length c.write_group-2.new.sums ≡ shape.m = c.write_group-2.auto.sums ∙ c.write_group.auto.sums ∙ c.requires.room.0 in
+    let long : length c.write_group-2.new.run ≡ length c.args.run.now = c.write_group-2.auto.run ∙ c.write_group.auto.run in
+    let eight : 4 * (k + 1) + 4 ≡ 4 * (shape.K + 2) = omega (arith, c.message_groups-groups.ensures) in
+    let ends : (4 * (k + 1) + 4) * length c.write_group-2.new.sums ≡ 4 * (shape.K + 2) * shape.m = ap₂ (λ n k. n * k) eight m in
     record {
       lengths = (omega (arith, m, c.requires.room.1.0), (omega (arith, m, c.requires.room.1.1), omega (arith, m, ok.some_long)));
       table = (omega (arith, ap (λ n. n / 32) m, hold.inverse_long, ap length c.inverse.ensures), (ap (λ n. n % 32) m ∙ hold.words, omega (arith, m, ok.short)));
@@ -85,20 +85,20 @@ write-product-requires g c =
       there = omega (arith, ends, long, segment_start e.laws shape ok tables (shape.K + 2), group_more e.zero e.plus shape c.args.run.now c.requires.there, c.requires.there);
     }
 
-pub write-group-requires-3 : goal.write-group-requires-3
-write-group-requires-3 g c =
+pub write_group-requires-3 : goal.write_group-requires-3
+write_group-requires-3 g c =
     let e = g.E.Element in
     let shape = g.C.QuasiCyclic.shape c.args.code in
     let ok = sounds shape (g.C.QuasiCyclic.lawful c.args.code) in
     let more = group_more e.zero e.plus shape c.args.run.now c.requires.there in
     let all = parts e.laws shape ok (g.C.QuasiCyclic.tables c.args.code) in
-    let m = c.complete.auto.sums ∙ c.write-product.auto.sums ∙ c.write-group-2.auto.sums ∙ c.write-group.auto.sums ∙ c.requires.room.0 in
-    let long : length c.complete.new.run ≡ length c.args.run.now = c.complete.auto.run ∙ c.write-product.auto.run ∙ c.write-group-2.auto.run ∙ c.write-group.auto.run in
-    let is : c.message-groups-groups.result * (4 * c.segment-group.result) ≡ shape.K * M shape = ap₂ (λ k m. k * (4 * m)) c.message-groups-groups.ensures c.segment-group.ensures in
+    let m = c.complete.auto.sums ∙ c.write_product.auto.sums ∙ c.write_group-2.auto.sums ∙ c.write_group.auto.sums ∙ c.requires.room.0 in
+    let long : length c.complete.new.run ≡ length c.args.run.now = c.complete.auto.run ∙ c.write_product.auto.run ∙ c.write_group-2.auto.run ∙ c.write_group.auto.run in
+    let is : c.message_groups-groups.result * (4 * c.segment-group.result) ≡ shape.K * M shape = ap₂ (λ k m. k * (4 * m)) c.message_groups-groups.ensures c.segment-group.ensures in
     record {
       short = omega (arith, ok.short, m);
-      readable = readable_given shape ok (closing shape) (shape.K + 3) _ (omega (arith, c.requires.there, long)) (closing_sound shape ok) _ _ _ m c.table-table.ensures c.closing-terms.ensures;
-      apart = apart_given shape (closing shape) _ (closing_apart shape ok) _ _ c.table-table.result.now _ m c.table-table.ensures c.closing-terms.ensures is;
+      readable = readable_given shape ok (closing shape) (shape.K + 3) _ (omega (arith, c.requires.there, long)) (closing_sound shape ok) _ _ _ m c.table-table.ensures c.closing_terms.ensures;
+      apart = apart_given shape (closing shape) _ (closing_apart shape ok) _ _ c.table-table.result.now _ m c.table-table.ensures c.closing_terms.ensures is;
       there = omega (arith, more, all, is, m, long, c.requires.there);
     }
 
@@ -110,23 +110,23 @@ returns g c =
     let ok = sounds shape (g.C.QuasiCyclic.lawful c.args.code) in
     let hold = tables_hold shape tables (g.C.QuasiCyclic.ruled c.args.code) in
     let r0 = c.args.run.now in
-    let r1 = c.write-group.new.run in
-    let r2 = c.write-group-2.new.run in
-    let r3 = c.write-product.new.run in
-    let r5 = c.write-group-3.new.run in
+    let r1 = c.write_group.new.run in
+    let r2 = c.write_group-2.new.run in
+    let r3 = c.write_product.new.run in
+    let r5 = c.write_group-3.new.run in
     let m1 = c.requires.room.0 in
-    let m2 = c.write-group.auto.sums ∙ m1 in
-    let m3 = c.write-group-2.auto.sums ∙ m2 in
-    let m5 = c.complete.auto.sums ∙ c.write-product.auto.sums ∙ m3 in
-    let k = c.message-groups-groups.ensures in
+    let m2 = c.write_group.auto.sums ∙ m1 in
+    let m3 = c.write_group-2.auto.sums ∙ m2 in
+    let m5 = c.complete.auto.sums ∙ c.write_product.auto.sums ∙ m3 in
+    let k = c.message_groups-groups.ensures in
     let high = ap₂ (λ k m. (k + 2) * (4 * m)) k c.segment-group.ensures in
     let low = ap₂ (λ k m. k * (4 * m)) k c.segment-group.ensures in
-    let is : factors (length c.write-group-2.new.sums) c.inverse.result.now (4 * c.message-groups-groups.result) (4 * (c.message-groups-groups.result + 1)) ≡ factors shape.m tables.inverse (4 * shape.K) (4 * (shape.K + 1)) =
+    let is : factors (length c.write_group-2.new.sums) c.inverse.result.now (4 * c.message_groups-groups.result) (4 * (c.message_groups-groups.result + 1)) ≡ factors shape.m tables.inverse (4 * shape.K) (4 * (shape.K + 1)) =
     λ i. factors (m3 i) (c.inverse.ensures i) (4 * k i) (4 * (k i + 1)) in
     made_by_rows e.laws shape ok tables hold r0 r1 r2 r3 r5 c.requires.there
-    c.write-group.auto.run c.write-group-2.auto.run c.write-product.auto.run (c.write-group-3.auto.run ∙ ap length c.complete.ensures)
-    (group_written e.zero e.plus shape shape.u3 (shape.K + 2) _ _ _ r0 r1 _ m1 c.table-table.ensures c.message-terms.ensures high c.write-group.ensures)
-    (group_written e.zero e.plus shape (asked shape) shape.K _ _ _ r1 r2 _ m2 c.table-table.ensures c.asked-terms.ensures low c.write-group-2.ensures)
-    (product_written e.zero e.plus (factors shape.m tables.inverse (4 * shape.K) (4 * (shape.K + 1))) r2 r3 (subst (Multiplied e.zero e.plus r2 r3) is c.write-product.ensures))
+    c.write_group.auto.run c.write_group-2.auto.run c.write_product.auto.run (c.write_group-3.auto.run ∙ ap length c.complete.ensures)
+    (group_written e.zero e.plus shape shape.u3 (shape.K + 2) _ _ _ r0 r1 _ m1 c.table-table.ensures c.message_terms.ensures high c.write_group.ensures)
+    (group_written e.zero e.plus shape (asked shape) shape.K _ _ _ r1 r2 _ m2 c.table-table.ensures c.asked_terms.ensures low c.write_group-2.ensures)
+    (product_written e.zero e.plus (factors shape.m tables.inverse (4 * shape.K) (4 * (shape.K + 1))) r2 r3 (subst (Multiplied e.zero e.plus r2 r3) is c.write_product.ensures))
     (subst (λ (l : List g.row.E.Denot). SegmentsWritten e.zero shape.m (segment_sum e.zero e.plus shape.m (permutations shape) (terms (closing shape)) (segments e.zero shape.m l)) (4 * shape.K) l r5 4) c.complete.ensures
-    (group_written e.zero e.plus shape (closing shape) shape.K _ _ _ c.complete.new.run r5 _ m5 c.table-table.ensures c.closing-terms.ensures low c.write-group-3.ensures))
+    (group_written e.zero e.plus shape (closing shape) shape.K _ _ _ c.complete.new.run r5 _ m5 c.table-table.ensures c.closing_terms.ensures low c.write_group-3.ensures))

@@ -8,22 +8,22 @@ use Rattle.qc.proofs.Encoded.{segment_start}
 use Rattle.qc.proofs.ByTable.{given_as, Produced, made_by_table}
 use Rattle.qc.proofs.coders.encode_by_table.Goals as goal
 
-pub overflow-mul-segments : goal.overflow-mul-segments
-overflow-mul-segments g c =
+pub overflow_mul-segments : goal.overflow_mul-segments
+overflow_mul-segments g c =
     let few = (sounds _ (g.C.QuasiCyclic.lawful c.args.code)).few in
     search rules
 
-pub write-product-requires : goal.write-product-requires
-write-product-requires g c =
+pub write_product-requires : goal.write_product-requires
+write_product-requires g c =
     let e = g.E.Element in
     let shape = g.C.QuasiCyclic.shape c.args.code in
     let tables = g.C.QuasiCyclic.tables c.args.code in
     let ok = sounds shape (g.C.QuasiCyclic.lawful c.args.code) in
     let hold = tables_hold shape tables (g.C.QuasiCyclic.ruled c.args.code) in
-    let k = c.message-groups-segments.result in
+    let k = c.message_groups-segments.result in
     let m = length c.args.sums.now in
-    let is : 4 * k * 8 * (m / 32) ≡ 4 * shape.K * 8 * (shape.m / 32) = ap₂ (λ k n. 4 * k * 8 * (n / 32)) c.message-groups-segments.ensures c.requires.room.0 in
-    let eight : 4 * k + 8 ≡ 4 * (shape.K + 2) = omega (arith, c.message-groups-segments.ensures) in
+    let is : 4 * k * 8 * (m / 32) ≡ 4 * shape.K * 8 * (shape.m / 32) = ap₂ (λ k n. 4 * k * 8 * (n / 32)) c.message_groups-segments.ensures c.requires.room.0 in
+    let eight : 4 * k + 8 ≡ 4 * (shape.K + 2) = omega (arith, c.message_groups-segments.ensures) in
     let sent_is : (4 * k + 8) * m ≡ 4 * (shape.K + 2) * shape.m = ap₂ (λ n k. n * k) eight c.requires.room.0 in
     record {
       lengths = (omega (arith, c.requires.room.0, c.requires.room.1.0), (omega (arith, c.requires.room.0, c.requires.room.1.1), omega (arith, c.requires.room.0, ok.some_long)));
@@ -40,9 +40,9 @@ returns g c =
     let tables = g.C.QuasiCyclic.tables c.args.code in
     let ok = sounds shape (g.C.QuasiCyclic.lawful c.args.code) in
     let run = c.args.run.now in
-    let is : given_as (length c.args.sums.now) c.generator.result.now (4 * c.message-groups-segments.result) ≡ given_as shape.m tables.generator (4 * shape.K) =
-    λ i. given_as (c.requires.room.0 i) (c.generator.ensures i) (4 * c.message-groups-segments.ensures i) in
+    let is : given_as (length c.args.sums.now) c.generator.result.now (4 * c.message_groups-segments.result) ≡ given_as shape.m tables.generator (4 * shape.K) =
+    λ i. given_as (c.requires.room.0 i) (c.generator.ensures i) (4 * c.message_groups-segments.ensures i) in
     c.complete.ensures
     ∙ ap (completed e.zero e.plus shape)
-    (made_by_table e.laws shape ok tables run c.write-product.new.run c.requires.there c.write-product.auto.run
-    (subst (Produced e.zero e.plus run c.write-product.new.run) is c.write-product.ensures))
+    (made_by_table e.laws shape ok tables run c.write_product.new.run c.requires.there c.write_product.auto.run
+    (subst (Produced e.zero e.plus run c.write_product.new.run) is c.write_product.ensures))

@@ -9,10 +9,10 @@ loop-i-preserved g c =
     let here = get_or_read c.args.sums.now _ _ c.loop-i-test.true c.index-sums-i.is e.zero in
     below_more _ _ c.loop-i.invariant (sym (ap₂ e.same here c.zero-zero.ensures) ∙ sym c.if-not-same.ensures)
 
-pub returns-then-all-zero : goal.returns-then-all-zero
-returns-then-all-zero g c =
+pub returns-then-all_zero : goal.returns-then-all_zero
+returns-then-all_zero g c =
     let e = g.E.Element in
-    sym (all_none _ _ (every_all (λ s. e.same (get_or c.args.sums.now s e.zero) e.zero) (length c.args.sums.now) (sym c.if-all-zero.ensures)))
+    sym (all_none _ _ (every_all (λ s. e.same (get_or c.args.sums.now s e.zero) e.zero) (length c.args.sums.now) (sym c.if-all_zero.ensures)))
 
 pub returns-then-not-same : goal.returns-then-not-same
 returns-then-not-same g c =

@@ -4,19 +4,19 @@ use Rattle.qc.proofs.Lowest.{all_none, found_at}
 use Rattle.qc.proofs.Rows.{row_none, row_found, within_group}
 use Rattle.qc.proofs.kernel.lowest_row.Goals as goal
 
-pub sum-segment-requires : goal.sum-segment-requires
-sum-segment-requires g c =
+pub sum_segment-requires : goal.sum_segment-requires
+sum_segment-requires g c =
     record {
       readable = subst (λ m. AllReadable m (length c.args.run.now) c.args.table.now c.args.terms.now) (sym c.loop-j.auto.sums) c.requires.readable;
       quarter = c.loop-j-test.true;
     }
 
-pub overflow-add-result : goal.overflow-add-result
-overflow-add-result g c =
+pub overflow_add-result : goal.overflow_add-result
+overflow_add-result g c =
     let m = length c.args.sums.now in
     let e = g.E.Element in
-    let at = found_at (λ s. e.same (get_or c.sum-segment.new.sums s e.zero) e.zero) (length c.sum-segment.new.sums) c.in-Some.s (sym c.in-Some.ensures) in
-    let low : c.in-Some.s < m = omega (arith, at.0, c.sum-segment.auto.sums, c.loop-j.auto.sums) in
+    let at = found_at (λ s. e.same (get_or c.sum_segment.new.sums s e.zero) e.zero) (length c.sum_segment.new.sums) c.in-Some.s (sym c.in-Some.ensures) in
+    let low : c.in-Some.s < m = omega (arith, at.0, c.sum_segment.auto.sums, c.loop-j.auto.sums) in
     let top = within_group c.loop-j.j m c.loop-j-test.true in
     let few = c.requires.short in
     search rules
@@ -25,17 +25,17 @@ pub returns-in-Some : goal.returns-in-Some
 returns-in-Some g c =
     let e = g.E.Element in
     let m = length c.args.sums.now in
-    let made = subst (λ n. (s : ℕ) → s < n → get_or c.sum-segment.new.sums s e.zero ≡ segment_sum e.zero e.plus n c.args.table.now c.args.terms.now (segments e.zero n c.args.run.now) c.loop-j.j s) c.loop-j.auto.sums c.sum-segment.ensures in
+    let made = subst (λ n. (s : ℕ) → s < n → get_or c.sum_segment.new.sums s e.zero ≡ segment_sum e.zero e.plus n c.args.table.now c.args.terms.now (segments e.zero n c.args.run.now) c.loop-j.j s) c.loop-j.auto.sums c.sum_segment.ensures in
     sym (row_found e.zero e.same m (segment_sum e.zero e.plus m c.args.table.now c.args.terms.now (segments e.zero m c.args.run.now)) c.loop-j.j
-    c.sum-segment.new.sums (c.sum-segment.auto.sums ∙ c.loop-j.auto.sums) made c.loop-j.invariant c.in-Some.s c.loop-j-test.true (sym c.in-Some.ensures))
+    c.sum_segment.new.sums (c.sum_segment.auto.sums ∙ c.loop-j.auto.sums) made c.loop-j.invariant c.in-Some.s c.loop-j-test.true (sym c.in-Some.ensures))
 
 pub loop-j-preserved : goal.loop-j-preserved
 loop-j-preserved g c =
     let e = g.E.Element in
     let m = length c.args.sums.now in
-    let made = subst (λ n. (s : ℕ) → s < n → get_or c.sum-segment.new.sums s e.zero ≡ segment_sum e.zero e.plus n c.args.table.now c.args.terms.now (segments e.zero n c.args.run.now) c.loop-j.j s) c.loop-j.auto.sums c.sum-segment.ensures in
+    let made = subst (λ n. (s : ℕ) → s < n → get_or c.sum_segment.new.sums s e.zero ≡ segment_sum e.zero e.plus n c.args.table.now c.args.terms.now (segments e.zero n c.args.run.now) c.loop-j.j s) c.loop-j.auto.sums c.sum_segment.ensures in
     row_none e.zero e.same m (segment_sum e.zero e.plus m c.args.table.now c.args.terms.now (segments e.zero m c.args.run.now)) c.loop-j.j
-    c.sum-segment.new.sums (c.sum-segment.auto.sums ∙ c.loop-j.auto.sums) made c.loop-j.invariant (sym c.in-default.ensures)
+    c.sum_segment.new.sums (c.sum_segment.auto.sums ∙ c.loop-j.auto.sums) made c.loop-j.invariant (sym c.in_default.ensures)
 
 pub returns : goal.returns
 returns g c =

@@ -10,8 +10,8 @@ no_term = record { permutation = 0; group = 0 }
 pub loop-t-init : goal.loop-t-init
 loop-t-init g c = λ s h. c.clear.ensures s (omega (arith, c.clear.auto.sums))
 
-pub add-term-requires : goal.add-term-requires
-add-term-requires g c =
+pub add_term-requires : goal.add_term-requires
+add_term-requires g c =
     let long : length c.args.sums.now ≡ length c.loop-t.sums = omega (arith, c.loop-t.auto.sums, c.clear.auto.sums) in
     record {
       readable = subst (λ m. Readable m (length c.args.run.now) c.args.table.now (get_or c.args.terms.now c.loop-t.t-index no_term)) long (c.requires.readable c.loop-t.t-index no_term c.loop-t-test.true);
@@ -23,12 +23,12 @@ loop-t-preserved g c =
     let e = g.E.Element in
     let k = c.loop-t.t-index in
     let terms = c.args.terms.now in
-    subst (λ m. (s : ℕ) → s < m → get_or c.add-term.new.sums s e.zero ≡ segment_sum e.zero e.plus m c.args.table.now (take (k + 1) terms) (segments e.zero m c.args.run.now) c.args.j s)
-    (sym c.add-term.auto.sums)
+    subst (λ m. (s : ℕ) → s < m → get_or c.add_term.new.sums s e.zero ≡ segment_sum e.zero e.plus m c.args.table.now (take (k + 1) terms) (segments e.zero m c.args.run.now) c.args.j s)
+    (sym c.add_term.auto.sums)
     (λ s h.
     let m = length c.loop-t.sums in
     let f = term_at m c.args.table.now (segments e.zero m c.args.run.now) c.args.j s in
-    c.add-term.ensures s h ∙ ap (λ x. e.plus x (f (get_or terms k no_term))) (c.loop-t.invariant s h) ∙ sym (total_more e.laws f terms k no_term c.loop-t-test.true))
+    c.add_term.ensures s h ∙ ap (λ x. e.plus x (f (get_or terms k no_term))) (c.loop-t.invariant s h) ∙ sym (total_more e.laws f terms k no_term c.loop-t-test.true))
 
 pub returns : goal.returns
 returns g c =

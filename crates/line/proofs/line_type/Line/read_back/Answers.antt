@@ -18,7 +18,7 @@ returns g c = λ b f.
     let message = c.args.message.now in
     let run = c.args.run.now in
     let code = l.code in
-    let able = readable code l.done k (length message) (length run) c.in-default.ensures in
+    let able = readable code l.done k (length message) (length run) c.in_default.ensures in
     let low : k < length b.messages = omega (arith, f.done_is, able.below) in
     let held = o.bits c.below.result.now in
     let below : held ≡ written b = ap o.bits c.below.ensures ∙ f.bits_are in
@@ -35,7 +35,7 @@ returns g c = λ b f.
     let free = nothing_due code b.opening b.messages k low held is place at message run able.message_long able.run_long inside in
     let done : c.read.result ≡ Ok (Upright, 0) = (c.read.ensures.accepts free Upright 0).1 (accepted code b.opening b.messages k low held is place at) in
     let sound : Message code (get_or b.messages k []) = subst (λ (x : Code). Message x (get_or b.messages k [])) (sym f.code_is) (f.messages_are k low) in
-    let nothing : None ≡ due_to_read b k message run = c.in-default.ensures ∙ ap₂ (λ (x : Code) (n : ℕ). read_back_due x n k (length message) (length run)) f.code_is f.done_is in
+    let nothing : None ≡ due_to_read b k message run = c.in_default.ensures ∙ ap₂ (λ (x : Code) (n : ℕ). read_back_due x n k (length message) (length run)) f.code_is f.done_is in
     record {
       answer = ap read_by nothing;
       message =

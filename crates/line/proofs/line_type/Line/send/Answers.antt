@@ -45,7 +45,7 @@ put-marker-requires g c =
     let l = c.args.self.now in
     let o = g.O.Outlet in
     let low = o.bits l.randomizer.below in
-    let able = sendable l.code (c.capacity.result - c.held.result) (length c.args.message.now) (length c.args.run.now) c.in-default.ensures in
+    let able = sendable l.code (c.capacity.result - c.held.result) (length c.args.message.now) (length c.args.run.now) c.in_default.ensures in
     omega (arith, able.room_left, c.capacity.ensures, c.held.ensures, length_masked (randomizing l.randomizer.start l.randomizer.code) low)
 
 pub put-bits-requires : goal.put-bits-requires
@@ -53,7 +53,7 @@ put-bits-requires g c =
     let l = c.args.self.now in
     let o = g.O.Outlet in
     let low = o.bits l.randomizer.below in
-    let able = sendable l.code (c.capacity.result - c.held.result) (length c.args.message.now) (length c.args.run.now) c.in-default.ensures in
+    let able = sendable l.code (c.capacity.result - c.held.result) (length c.args.message.now) (length c.args.run.now) c.in_default.ensures in
     let mask = masked (randomizing l.randomizer.start l.randomizer.code) low in
     let held = ap length c.put-marker.ensures.bits ∙ length-append mask marker in
     let cut : length (take (c.block-len.result - 0) c.encode.new.run) ≡ c.block-len.result - 0 = length-take-le _ _ (omega (arith, c.block-len.ensures, able.run_long, whole_size l.code, sent_size l.code, c.encode.auto.run, c.spread.auto.run)) in
@@ -70,7 +70,7 @@ returns g c =
     let low = o.bits l.randomizer.below in
     let left : c.capacity.result - c.held.result ≡ o.room l.randomizer.below - length low =
     ap₂ ◌-◌ c.capacity.ensures (c.held.ensures ∙ length_masked (randomizing l.randomizer.start l.randomizer.code) low) in
-    let able = sendable code (c.capacity.result - c.held.result) (length m) (length run) c.in-default.ensures in
+    let able = sendable code (c.capacity.result - c.held.result) (length m) (length run) c.in_default.ensures in
     let spread : c.spread.new.run ≡ message_bits code m ++ drop (8 * message_len code) run = c.spread.ensures ∙ ap (λ n. packed_bits m (8 * n) ++ drop (8 * n) run) able.message_long in
     let coded : c.encode.new.run ≡ block_in code m run = coded_is code m run _ _ able.run_long spread c.encode.ensures.after in
     let cut : take (c.block-len.result - 0) c.encode.new.run ≡ block code m =
@@ -82,7 +82,7 @@ returns g c =
     let taken = c.put_bits.ensures.bits ∙ ap₂ (λ (x y : List Bit). x ++ y) c.put-marker.ensures.bits cut in
     record {
       sends = λ b f.
-          let nothing : None ≡ due_to_send b m run = c.in-default.ensures ∙ ap (λ n. send_due code n (length m) (length run)) left ∙ due_here o.bits o.room b l f m run in
+          let nothing : None ≡ due_to_send b m run = c.in_default.ensures ∙ ap (λ n. send_due code n (length m) (length run)) left ∙ due_here o.bits o.room b l f m run in
           let small = sendable b.code (places_left b) (length m) (length run) nothing in
           record {
             answer = ap sent_by nothing;
