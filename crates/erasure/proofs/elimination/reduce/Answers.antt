@@ -12,9 +12,9 @@ loop-p-preserved c =
     let t = c.args.pivots.now in
     elim c.if-holds.branch [
       | then-holds w ↦
-          subst (Cleared c.args.u _ t c.args.form) (sym (w.left_is ∙ w.plus-left.ensures))
-          (cleared_more c.args.u t c.requires.reduced _ _ _ c.loop-p-test.true c.loop-p.invariant (c.holds.ensures.in-set w.if-holds.true))
+          subst (Cleared c.args.u _ t c.args.form) (sym (w.left-is ∙ w.plus-left.ensures))
+          (cleared_more c.args.u t c.requires.reduced _ _ _ c.loop-p-test.true c.loop-p.invariant (c.holds.ensures.in_set w.if-holds.true))
       | else-holds w ↦
-          subst (Cleared c.args.u _ t c.args.form) (sym w.left_is)
-          (cleared_kept c.args.u t c.requires.reduced _ _ _ c.loop-p-test.true c.loop-p.invariant (c.holds.ensures.not-in-set w.if-holds.false))
+          subst (Cleared c.args.u _ t c.args.form) (sym w.left-is)
+          (cleared_kept c.args.u t c.requires.reduced _ _ _ c.loop-p-test.true c.loop-p.invariant (c.holds.ensures.not_in_set w.if-holds.false))
     ]

@@ -7,4 +7,4 @@ pub loop-mark-preserved : goal.loop-mark-preserved
 loop-mark-preserved c =
     let ms = c.args.marks.now in
     let i = c.loop-mark.mark-index in
-    (c.next-unknown-n.ensures ∙ ap (λ (j : ℕ). j + gap (mark_at ms i)) c.loop-mark.invariant.0 ∙ sym (rank_step ms i), omega (arith, c.next-unknown-n.ensures, gap_le (mark_at ms i), c.loop-mark.invariant.1))
+    (c.next_unknown-n.ensures ∙ ap (λ (j : ℕ). j + gap (mark_at ms i)) c.loop-mark.invariant.0 ∙ sym (rank_step ms i), omega (arith, c.next_unknown-n.ensures, gap_le (mark_at ms i), c.loop-mark.invariant.1))

@@ -11,11 +11,11 @@ returns-in-Some c =
     let k = c.args.k in
     let at = c.in-Some.ensures in
     undecided c.args.u t c.requires.reduced k _ at.0
-    (subst (λ (w : ℕ). member (bit_xor (pivot t k).unknowns w) c.in-Some.field-0 ≡ One) c.only-unknown.ensures at.1)
+    (subst (λ (w : ℕ). member (bit_xor (pivot t k).unknowns w) c.in-Some.field-0 ≡ One) c.only_unknown.ensures at.1)
 
 pub returns-in-None : goal.returns-in-None
 returns-in-None c =
     let t = c.args.pivots.now in
     let k = c.args.k in
     settled c.args.u t k c.requires.size.1
-    (λ q h. subst (λ (w : ℕ). member (bit_xor (pivot t k).unknowns w) q ≡ Zero) c.only-unknown.ensures (c.in-None.ensures q h))
+    (λ q h. subst (λ (w : ℕ). member (bit_xor (pivot t k).unknowns w) q ≡ Zero) c.only_unknown.ensures (c.in-None.ensures q h))

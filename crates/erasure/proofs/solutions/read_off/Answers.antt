@@ -4,7 +4,7 @@ use Rattle.erasure.specs.Unknowns.{pivot, Solves}
 use Rattle.erasure.specs.Solutions.{Sorted, Tells}
 use Rattle.erasure.proofs.Reading.{none_sorted, sorted_closed, sorted_open, several, unique}
 use Rattle.erasure.proofs.solutions.read_off.Goals as goal
-use Rattle.erasure.proofs.solutions.read_off.Goals.{then-is-open, else-is-open}
+use Rattle.erasure.proofs.solutions.read_off.Goals.{then-is_open, else-is_open}
 
 pub loop-k-init : goal.loop-k-init
 loop-k-init c = none_sorted _ _ _ refl
@@ -19,12 +19,12 @@ loop-k-preserved c =
     let room : k < length bits = omega (arith, c.loop-k.invariant.long) in
     let told : Bool → Type 0 = Tells (Solves u t) k (pivot t k).bit in
     let made : ℕ → Type 0 = Sorted u t (k + 1) (set bits k (pivot t k).bit) in
-    elim c.if-is-open.branch [
-      | then-is-open w ↦
-          subst made (sym (w.open-is ∙ ap (bit_or c.loop-k.open) w.only-unknown-open.ensures))
-          (sorted_open u t k bits c.loop-k.open room so (subst told w.if-is-open.true c.is-open.ensures))
-      | else-is-open w ↦
-          subst made (sym w.open-is) (sorted_closed u t k bits c.loop-k.open room so (subst told w.if-is-open.false c.is-open.ensures))
+    elim c.if-is_open.branch [
+      | then-is_open w ↦
+          subst made (sym (w.open-is ∙ ap (bit_or c.loop-k.open) w.only_unknown-open.ensures))
+          (sorted_open u t k bits c.loop-k.open room so (subst told w.if-is_open.true c.is_open.ensures))
+      | else-is_open w ↦
+          subst made (sym w.open-is) (sorted_closed u t k bits c.loop-k.open room so (subst told w.if-is_open.false c.is_open.ensures))
     ]
 
 pub returns-in-Some : goal.returns-in-Some

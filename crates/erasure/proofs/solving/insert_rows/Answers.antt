@@ -14,28 +14,28 @@ loop-n-init c =
 
 pub loop-n-preserved : goal.loop-n-preserved
 loop-n-preserved c =
-    let i = c.if-not-insert-all.ensures in
+    let i = c.if-not-insert_all.ensures in
     let made =
-    rows_are c.args.u (shape_of c.args.code) c.args.run.now c.loop-n.n c.loop-n.rows c.rows-of-segment.new.rows
-    c.requires.there c.loop-n-test.true (c.loop-n.auto.rows ∙ c.requires.segment) c.rows-of-segment.ensures.after in (
+    rows_are c.args.u (shape_of c.args.code) c.args.run.now c.loop-n.n c.loop-n.rows c.rows_of_segment.new.rows
+    c.requires.there c.loop-n-test.true (c.loop-n.auto.rows ∙ c.requires.segment) c.rows_of_segment.ensures.after in (
       i.reduced,
-      segment_more c.args.u (shape_of c.args.code) c.args.run.now c.loop-n.n c.rows-of-segment.new.rows made
-          c.args.pivots.now c.loop-n.pivots c.insert-all.new.pivots c.loop-n.invariant.1 i.demanded,
+      segment_more c.args.u (shape_of c.args.code) c.args.run.now c.loop-n.n c.rows_of_segment.new.rows made
+          c.args.pivots.now c.loop-n.pivots c.insert_all.new.pivots c.loop-n.invariant.1 i.demanded,
     )
 
-pub returns-then-not-insert-all : goal.returns-then-not-insert-all
-returns-then-not-insert-all c =
-    let i = c.if-not-insert-all.ensures in
+pub returns-then-not-insert_all : goal.returns-then-not-insert_all
+returns-then-not-insert_all c =
+    let i = c.if-not-insert_all.ensures in
     let made =
-    rows_are c.args.u (shape_of c.args.code) c.args.run.now c.loop-n.n c.loop-n.rows c.rows-of-segment.new.rows
-    c.requires.there c.loop-n-test.true (c.loop-n.auto.rows ∙ c.requires.segment) c.rows-of-segment.ensures.after in
+    rows_are c.args.u (shape_of c.args.code) c.args.run.now c.loop-n.n c.loop-n.rows c.rows_of_segment.new.rows
+    c.requires.there c.loop-n-test.true (c.loop-n.auto.rows ∙ c.requires.segment) c.rows_of_segment.ensures.after in
     let shape = shape_of c.args.code in
     let far : c.loop-n.n + 1 ≤ 8 = omega (arith, c.loop-n-test.true) in
     let most = mul-le-mul_right shape.m far in
     record {
       reduced = i.reduced;
       demanded = λ s z all.
-          let d = rows_part c.args.u shape c.args.run.now c.loop-n.n c.rows-of-segment.new.rows made s (λ r h. all r (omega (arith, most))) in
+          let d = rows_part c.args.u shape c.args.run.now c.loop-n.n c.rows_of_segment.new.rows made s (λ r h. all r (omega (arith, most))) in
           i.demanded s (c.loop-n.invariant.1.from s (z, d.0)) d.1;
     }
 

@@ -3,7 +3,7 @@ use Rattle.outlet.proofs.Digits.{with_fits}
 use Rattle.outlet.proofs.bytes.with_bit.Goals as goal
 use Rattle.outlet.proofs.bytes.with_bit.Goals.{then-q-gt0, else-q-gt0}
 
-pub overflow-add-result : goal.overflow-add-result
-overflow-add-result c =
+pub overflow_add-result : goal.overflow_add-result
+overflow_add-result c =
     let small = with_fits c.args.byte c.args.q (omega (arith, c.ranges.byte.fits)) c.requires in
     elim c.if-q-gt0.branch [ then-q-gt0 w ↦ record { fits = omega (arith, w.front-is, small) } | else-q-gt0 w ↦ record { fits = omega (arith, w.front-is) } ]

@@ -23,7 +23,7 @@ returns c =
     let p = c.args.place in
     let byte : SFits w8 c.index.result.now = search rules in
     ap done
-    (c.bit-for.ensures
+    (c.bit_for.ensures
     ∙ ap level_bit (to_z-of_z w8 _ byte ∙ get_or_read_under xs p _ _ (pos 0) c.index.ensures (omega arith) o.bytes.ok.0)
     ∙ sym (level_at xs o.held p fits (omega arith)))
     ∙ read_answer (level_bits xs o.held) p (omega (arith, level_count xs o.held fits))

@@ -25,7 +25,7 @@ returns c =
     let xs : List ℤ = vec_items o.bytes in
     let within : o.held < length xs = omega (arith, o.bytes.ok.0) in
     let many = level_count xs o.held (omega arith) in
-    let stored : to_z w8 (of_z w8 c.level-of-x.result) ≡ level b = ap (λ (z : ℤ). to_z w8 (of_z w8 z)) c.level-of-x.ensures ∙ level_stored b in
+    let stored : to_z w8 (of_z w8 c.level_of-x.result) ≡ level b = ap (λ (z : ℤ). to_z w8 (of_z w8 z)) c.level_of-x.ensures ∙ level_stored b in
     record {
       answer = done_answer (b ∷ []) (level_bits xs o.held) (level_room (vec_len o.bytes)) (omega arith);
       after = rw stored (put_level_bits xs o.held b within) ∙ done_after (b ∷ []) (level_bits xs o.held) (level_room (vec_len o.bytes)) (omega arith);

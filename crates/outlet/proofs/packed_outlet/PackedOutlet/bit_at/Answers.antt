@@ -21,7 +21,7 @@ returns c =
     let xs = vec_items o.bytes in
     let p = c.args.place in
     ap done
-    (c.read-bit.ensures
+    (c.read_bit.ensures
     ∙ ap (λ n. bit_of n (p % 8)) (get_or_read_under xs (p / 8) _ _ 0 c.index.ensures (omega arith) o.bytes.ok.0)
     ∙ sym (get_or-map-range_with_len (place_bit xs) 0 o.held p p Zero (omega arith) (omega arith)))
     ∙ read_answer (packed_bits xs o.held) p (omega (arith, length-map-range_with_len (place_bit xs) 0 o.held))

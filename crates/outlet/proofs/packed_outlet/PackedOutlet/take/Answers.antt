@@ -29,7 +29,7 @@ returns c =
     let many = length-map-range_with_len (place_bit xs) 0 o.held in
     record {
       answer = done_answer (b ∷ []) (packed_bits xs o.held) (packed_room (vec_len o.bytes)) (omega arith);
-      after = rw c.with-bit-byte.ensures (put_bits xs o.held b c.index.result.now within read (search rules)) ∙ done_after (b ∷ []) (packed_bits xs o.held) (packed_room (vec_len o.bytes)) (omega arith);
+      after = rw c.with_bit-byte.ensures (put_bits xs o.held b c.index.result.now within read (search rules)) ∙ done_after (b ∷ []) (packed_bits xs o.held) (packed_room (vec_len o.bytes)) (omega arith);
       capacity = refl;
-      rest = rw c.with-bit-byte.ensures (put_packs xs o.held b c.index.result.now within read (search rules));
+      rest = rw c.with_bit-byte.ensures (put_packs xs o.held b c.index.result.now within read (search rules));
     }
