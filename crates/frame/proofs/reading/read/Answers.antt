@@ -29,15 +29,15 @@ returns-in-Some g c =
       one = one_way held c.args.place c.args.tolerance;
     }
 
-pub returns-in-default-find-marker : goal.returns-in-default-find-marker
-returns-in-default-find-marker g c =
+pub returns-in_default-find_marker : goal.returns-in_default-find_marker
+returns-in_default-find_marker g c =
     let held = g.O.Outlet.bits c.args.outlet.now in
     let message = c.args.message.now in
     let run = c.args.run.now in
     let nothing : None ≡ due (length held) c.args.place c.args.code c.args.tolerance (length message) (length run)
     = c.in_default.ensures ∙ ap (λ n. due n c.args.place c.args.code c.args.tolerance (length message) (length run)) c.held.ensures in
     let lawful = admitted (length held) c.args.place c.args.code c.args.tolerance (length message) (length run) nothing in
-    let none = c.in_default-find-marker.ensures in
+    let none = c.in_default-find_marker.ensures in
     record {
       answer = answer_is held c.args.place c.args.code c.args.tolerance message run _ nothing _ none;
       run = run_is held c.args.place c.args.code c.args.tolerance message run _ nothing _ none;
@@ -49,9 +49,9 @@ returns-in-default-find-marker g c =
 pub fetch-requires : goal.fetch-requires
 fetch-requires g c = let lawful = admitted c.held.result c.args.place c.args.code c.args.tolerance (length c.args.message.now) (length c.args.run.now) c.in_default.ensures in
     record {
-      run = omega (arith, c.block-len.ensures, sent_within c.args.code, lawful.run_long);
-      held = omega (arith, c.block-len.ensures, lawful.there, c.held.ensures);
-      fits = omega (arith, c.block-len.ensures, lawful.there, c.held.type-inv);
+      run = omega (arith, c.block_len.ensures, sent_within c.args.code, lawful.run_long);
+      held = omega (arith, c.block_len.ensures, lawful.there, c.held.ensures);
+      fits = omega (arith, c.block_len.ensures, lawful.there, c.held.type_inv);
     }
 
 pub gather-requires : goal.gather-requires
@@ -68,11 +68,11 @@ returns-in-Passes g c =
     let nothing : None ≡ due (length held) place code c.args.tolerance (length message) (length run)
     = c.in_default.ensures ∙ ap (λ n. due n place code c.args.tolerance (length message) (length run)) c.held.ensures in
     let lawful = admitted (length held) c.args.place c.args.code c.args.tolerance (length message) (length run) nothing in
-    let way = c.in-Some-find-marker.orientation in
-    let d = c.in-Some-find-marker.distance in
-    let seen = c.in-Some-find-marker.ensures in
+    let way = c.in-Some-find_marker.orientation in
+    let d = c.in-Some-find_marker.distance in
+    let seen = c.in-Some-find_marker.ensures in
     let got : c.fetch.new.run ≡ received_run way held place code run
-    = c.fetch.ensures ∙ ap₂ (λ (t : Bit) (n : ℕ). received t held place n ++ drop n run) c.flip.ensures c.block-len.ensures in
+    = c.fetch.ensures ∙ ap₂ (λ (t : Bit) (n : ℕ). received t held place n ++ drop n run) c.flip.ensures c.block_len.ensures in
     let clean = passes_none _ (failing_row held place code run way lawful.run_long _ got _ (ap done (sym c.in-Passes.is) ∙ c.in-Ok.ensures.answer)) in
     let worked = run_worked held place code run way lawful.run_long _ got _ c.check.ensures.after in
     record {
@@ -97,11 +97,11 @@ returns-in-Fails g c =
     let nothing : None ≡ due (length held) place code c.args.tolerance (length message) (length run)
     = c.in_default.ensures ∙ ap (λ n. due n place code c.args.tolerance (length message) (length run)) c.held.ensures in
     let lawful = admitted (length held) c.args.place c.args.code c.args.tolerance (length message) (length run) nothing in
-    let way = c.in-Some-find-marker.orientation in
-    let d = c.in-Some-find-marker.distance in
-    let seen = c.in-Some-find-marker.ensures in
+    let way = c.in-Some-find_marker.orientation in
+    let d = c.in-Some-find_marker.distance in
+    let seen = c.in-Some-find_marker.ensures in
     let got : c.fetch.new.run ≡ received_run way held place code run
-    = c.fetch.ensures ∙ ap₂ (λ (t : Bit) (n : ℕ). received t held place n ++ drop n run) c.flip.ensures c.block-len.ensures in
+    = c.fetch.ensures ∙ ap₂ (λ (t : Bit) (n : ℕ). received t held place n ++ drop n run) c.flip.ensures c.block_len.ensures in
     let row = c.in-Fails.row in
     let low = fails_some row _ (failing_row held place code run way lawful.run_long _ got _ (ap done (sym c.in-Fails.is) ∙ c.in-Ok.ensures.answer)) in
     let worked = run_worked held place code run way lawful.run_long _ got _ c.check.ensures.after in

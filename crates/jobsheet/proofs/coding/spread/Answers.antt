@@ -7,8 +7,8 @@ use Rattle.jobsheet.proofs.Digits.{hex_at}
 use Rattle.jobsheet.proofs.Filling.{filled_more}
 use Rattle.jobsheet.proofs.coding.spread.Goals as goal
 
-pub bit-of-requires : goal.bit-of-requires
-bit-of-requires c = (hex_at c.args.digits.now (c.loop-i.i / 4) c.requires.digits.1 (omega (arith, c.requires.digits.0)), omega arith)
+pub bit_of-requires : goal.bit_of-requires
+bit_of-requires c = (hex_at c.args.digits.now (c.loop-i.i / 4) c.requires.digits.1 (omega (arith, c.requires.digits.0)), omega arith)
 
 pub loop-i-preserved : goal.loop-i-preserved
 unfolding message_bit

@@ -16,9 +16,9 @@ loop-k-preserved c =
     let old = c.args.out.now in
     let at = c.args.at in
     let k = c.loop-k.k in
-    let b = c.digit-of.result in
+    let b = c.digit_of.result in
     let f : ℕ → ℕ = digit_at (λ i. get_or c.args.bits.now i Zero) in
     ap (λ (l : List ℕ). set l (at + k) b) c.loop-k.invariant
     ∙ printed_byte old at (map f (range_with_len 0 k)) k b (length-map-range_with_len f 0 k) (omega (arith, c.requires.room))
-    ∙ ap (λ (n : ℕ). printed old at (map f (range_with_len 0 k) ++ (n ∷ []))) c.digit-of.ensures
+    ∙ ap (λ (n : ℕ). printed old at (map f (range_with_len 0 k) ++ (n ∷ []))) c.digit_of.ensures
     ∙ ap (printed old at) (sym (map-range_with_len_more f 0 k k (omega arith)))

@@ -4,23 +4,23 @@ use Rattle.jobsheet.specs.Printing.{printed}
 use Rattle.jobsheet.proofs.Fronts.{front_first, front_more, ten}
 use Rattle.jobsheet.proofs.report.print_refusal.Goals as goal
 
-pub put-decimal-at-requires : goal.put-decimal-at-requires
-put-decimal-at-requires c = omega (arith, c.requires, ten c.line.result c.line.type-inv)
+pub put_decimal-at-requires : goal.put_decimal-at-requires
+put_decimal-at-requires c = omega (arith, c.requires, ten c.line.result c.line.type_inv)
 
 pub put-at-requires : goal.put-at-requires
-put-at-requires c = omega (arith, c.requires, ten c.line.result c.line.type-inv)
+put-at-requires c = omega (arith, c.requires, ten c.line.result c.line.type_inv)
 
-pub put-decimal-at-requires-2 : goal.put-decimal-at-requires-2
-put-decimal-at-requires-2 c = omega (arith, c.requires, ten c.line.result c.line.type-inv, ten c.column.result c.column.type-inv)
+pub put_decimal-at-requires-2 : goal.put_decimal-at-requires-2
+put_decimal-at-requires-2 c = omega (arith, c.requires, ten c.line.result c.line.type_inv, ten c.column.result c.column.type_inv)
 
 pub put-at-requires-2 : goal.put-at-requires-2
-put-at-requires-2 c = omega (arith, c.requires, ten c.line.result c.line.type-inv, ten c.column.result c.column.type-inv)
+put-at-requires-2 c = omega (arith, c.requires, ten c.line.result c.line.type_inv, ten c.column.result c.column.type_inv)
 
-pub put-decimal-at-requires-3 : goal.put-decimal-at-requires-3
-put-decimal-at-requires-3 c = omega (arith, c.requires, ten c.line.result c.line.type-inv, ten c.column.result c.column.type-inv, ten c.number.result c.number.type-inv)
+pub put_decimal-at-requires-3 : goal.put_decimal-at-requires-3
+put_decimal-at-requires-3 c = omega (arith, c.requires, ten c.line.result c.line.type_inv, ten c.column.result c.column.type_inv, ten c.number.result c.number.type_inv)
 
 pub put-requires : goal.put-requires
-put-requires c = omega (arith, c.requires, ten c.line.result c.line.type-inv, ten c.column.result c.column.type-inv, ten c.number.result c.number.type-inv)
+put-requires c = omega (arith, c.requires, ten c.line.result c.line.type_inv, ten c.column.result c.column.type_inv, ten c.number.result c.number.type_inv)
 
 regroup : (a b d e f g : List ℕ) → ((((a ++ b) ++ d) ++ e) ++ f) ++ g ≡ (a ++ (b ++ (d ++ (e ++ f)))) ++ g
 regroup a b d e f g = simp append_assoc
@@ -31,14 +31,14 @@ returns c =
     let p = c.line.result in
     let q = c.column.result in
     let n = c.number.result in
-    let s : length (decimal p) ≤ 10 = ten p c.line.type-inv in
-    let t : length (decimal q) ≤ 10 = ten q c.column.type-inv in
-    let u : length (decimal n) ≤ 10 = ten n c.number.type-inv in
-    let f1 = front_first {old = old} (decimal p) c.put-decimal-at.ensures.at c.put-decimal-at.ensures.out (omega (arith, c.requires)) in
+    let s : length (decimal p) ≤ 10 = ten p c.line.type_inv in
+    let t : length (decimal q) ≤ 10 = ten q c.column.type_inv in
+    let u : length (decimal n) ≤ 10 = ten n c.number.type_inv in
+    let f1 = front_first {old = old} (decimal p) c.put_decimal-at.ensures.at c.put_decimal-at.ensures.out (omega (arith, c.requires)) in
     let f2 = front_more (codes ",refused,") f1 c.put-at.ensures.at c.put-at.ensures.out (omega (arith, c.requires)) in
-    let f3 = front_more (decimal q) f2 c.put-decimal-at-2.ensures.at c.put-decimal-at-2.ensures.out (omega (arith, c.requires)) in
+    let f3 = front_more (decimal q) f2 c.put_decimal-at-2.ensures.at c.put_decimal-at-2.ensures.out (omega (arith, c.requires)) in
     let f4 = front_more (codes ",") f3 c.put-at-2.ensures.at c.put-at-2.ensures.out (omega (arith, c.requires)) in
-    let f5 = front_more (decimal n) f4 c.put-decimal-at-3.ensures.at c.put-decimal-at-3.ensures.out (omega (arith, c.requires)) in
+    let f5 = front_more (decimal n) f4 c.put_decimal-at-3.ensures.at c.put_decimal-at-3.ensures.out (omega (arith, c.requires)) in
     let f6 = front_more (codes "\n") f5 c.put.ensures.at c.put.ensures.out (omega (arith, c.requires)) in
     let e = regroup (decimal p) (codes ",refused,") (decimal q) (codes ",") (decimal n) (codes "\n")
     ∙ ap₂ (λ (l k : ℕ). (decimal l ++ (codes ",refused," ++ (decimal k ++ (codes "," ++ decimal n)))) ++ codes "\n") c.line.ensures c.column.ensures

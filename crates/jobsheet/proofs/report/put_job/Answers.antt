@@ -3,14 +3,14 @@ use Rattle.jobsheet.specs.Printing.{printed}
 use Rattle.jobsheet.proofs.Fronts.{front_first, front_more, five, one, word_five}
 use Rattle.jobsheet.proofs.report.put_job.Goals as goal
 
-pub put-decimal-at-requires : goal.put-decimal-at-requires
-put-decimal-at-requires c = omega (arith, c.requires.room, five c.args.line c.requires.line)
+pub put_decimal-at-requires : goal.put_decimal-at-requires
+put_decimal-at-requires c = omega (arith, c.requires.room, five c.args.line c.requires.line)
 
 pub put-at-requires : goal.put-at-requires
 put-at-requires c = omega (arith, c.requires.room, five c.args.line c.requires.line)
 
-pub put-decimal-at-requires-2 : goal.put-decimal-at-requires-2
-put-decimal-at-requires-2 c = omega (arith, c.requires.room, five c.args.line c.requires.line, ap (λ (n : ℕ). length (decimal n)) c.number.ensures, one c.args.code)
+pub put_decimal-at-requires-2 : goal.put_decimal-at-requires-2
+put_decimal-at-requires-2 c = omega (arith, c.requires.room, five c.args.line c.requires.line, ap (λ (n : ℕ). length (decimal n)) c.number.ensures, one c.args.code)
 
 pub put-at-requires-2 : goal.put-at-requires-2
 put-at-requires-2 c = omega (arith, c.requires.room, five c.args.line c.requires.line, ap (λ (n : ℕ). length (decimal n)) c.number.ensures, one c.args.code)
@@ -33,9 +33,9 @@ returns c =
     let s : length (decimal p) ≤ 5 = five p c.requires.line in
     let t : length (decimal n) ≡ 1 = ap (λ (n : ℕ). length (decimal n)) c.number.ensures ∙ one c.args.code in
     let u : length w ≡ 5 = ap length c.word.ensures ∙ word_five c.args.coder in
-    let f1 = front_first {old = old} {from = 0} (decimal p) c.put-decimal-at.ensures.at c.put-decimal-at.ensures.out (omega (arith, c.requires.room)) in
+    let f1 = front_first {old = old} {from = 0} (decimal p) c.put_decimal-at.ensures.at c.put_decimal-at.ensures.out (omega (arith, c.requires.room)) in
     let f2 = front_more (codes ",") f1 c.put-at.ensures.at c.put-at.ensures.out (omega (arith, c.requires.room)) in
-    let f3 = front_more (decimal n) f2 c.put-decimal-at-2.ensures.at c.put-decimal-at-2.ensures.out (omega (arith, c.requires.room)) in
+    let f3 = front_more (decimal n) f2 c.put_decimal-at-2.ensures.at c.put_decimal-at-2.ensures.out (omega (arith, c.requires.room)) in
     let f4 = front_more (codes ",") f3 c.put-at-2.ensures.at c.put-at-2.ensures.out (omega (arith, c.requires.room)) in
     let f5 = front_more w f4 c.put-at-3.ensures.at c.put-at-3.ensures.out (omega (arith, c.requires.room)) in
     let f6 = front_more (codes ",") f5 c.put.ensures.at c.put.ensures.out (omega (arith, c.requires.room)) in

@@ -21,8 +21,8 @@ returns-then-self c =
       sheet = over_standing (length old) (standing sheet) c.if-out-lt-ROOM.false none;
     }
 
-pub print-job-requires : goal.print-job-requires
-print-job-requires c =
+pub print_job-requires : goal.print_job-requires
+print_job-requires c =
     let sheet = c.args.self.now in
     let m = next_message sheet.order sheet.line _ (asked c.in-Ok.job) c.in-Ok.ensures.answer in
     record { room = c.if-out-lt-ROOM.false; line = omega (arith, sheet.inside, sheet.few, c.if-self.false); message = (m.long, m.hex) }
@@ -34,10 +34,10 @@ returns-in-Ok c =
     let some = left_there sheet.text.now sheet.at (omega (arith, sheet.inside, c.if-self.false)) in
     let text = worked_text (length old) (standing sheet) c.if-out-lt-ROOM.false (Ok (asked c.in-Ok.job)) c.in-Ok.ensures.answer some in
     record {
-      count = c.print-job.ensures.count ∙ ap length text;
+      count = c.print_job.ensures.count ∙ ap length text;
       fault = ap refusal_of (worked_answer (length old) (standing sheet) c.if-out-lt-ROOM.false (Ok (asked c.in-Ok.job)) c.in-Ok.ensures.answer);
-      out = c.print-job.ensures.out ∙ printed_front old _ ∙ ap (λ (t : List ℕ). front t old) text;
-      sheet = c.next-job.ensures.after ∙ job_standing_is (length old) (standing sheet) c.if-out-lt-ROOM.false;
+      out = c.print_job.ensures.out ∙ printed_front old _ ∙ ap (λ (t : List ℕ). front t old) text;
+      sheet = c.next_job.ensures.after ∙ job_standing_is (length old) (standing sheet) c.if-out-lt-ROOM.false;
     }
 
 pub returns-in-Err : goal.returns-in-Err
@@ -48,8 +48,8 @@ returns-in-Err c =
     let some = left_there sheet.text.now sheet.at (omega (arith, sheet.inside, c.if-self.false)) in
     let text = worked_text (length old) (standing sheet) c.if-out-lt-ROOM.false (Err fault) c.in-Err.ensures.answer some in
     record {
-      count = omega (arith, c.print-refusal.ensures.at, ap length text);
+      count = omega (arith, c.print_refusal.ensures.at, ap length text);
       fault = ap refusal_of (worked_answer (length old) (standing sheet) c.if-out-lt-ROOM.false (Err fault) c.in-Err.ensures.answer);
-      out = c.print-refusal.ensures.out ∙ printed_front old _ ∙ ap (λ (t : List ℕ). front t old) text;
-      sheet = c.next-job.ensures.after ∙ job_standing_is (length old) (standing sheet) c.if-out-lt-ROOM.false;
+      out = c.print_refusal.ensures.out ∙ printed_front old _ ∙ ap (λ (t : List ℕ). front t old) text;
+      sheet = c.next_job.ensures.after ∙ job_standing_is (length old) (standing sheet) c.if-out-lt-ROOM.false;
     }

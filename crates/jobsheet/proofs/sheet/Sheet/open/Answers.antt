@@ -37,11 +37,11 @@ returns-in-Err c =
     let prints = open_printed_is (length old) text c.if-out-lt-ROOM.false (Err f) b in
     let long = length-append (ended heading) line in
     record {
-      count = omega (arith, c.print-refusal.ensures.at, c.put-count.ensures.at, ap length prints, long);
+      count = omega (arith, c.print_refusal.ensures.at, c.put-count.ensures.at, ap length prints, long);
       fault = ap refusal_of (open_answer_is (length old) text c.if-out-lt-ROOM.false (Err f) b);
-      out = c.print-refusal.ensures.out
+      out = c.print_refusal.ensures.out
           ∙ ap (λ (l : List ℕ). printed l c.put-count.result line) c.put-count.ensures.out
-          ∙ printed_more old 0 (ended heading) line c.put-count.result c.put-count.ensures.at (omega (arith, c.print-refusal.ensures.at, c.print-refusal.ensures.within, c.put-count.ensures.at, c.put-count.auto.out))
+          ∙ printed_more old 0 (ended heading) line c.put-count.result c.put-count.ensures.at (omega (arith, c.print_refusal.ensures.at, c.print_refusal.ensures.within, c.put-count.ensures.at, c.put-count.auto.out))
           ∙ printed_front old (ended heading ++ line) ∙ ap (λ (t : List ℕ). front t old) prints;
       sheet = c.closed-in-Err.ensures ∙ open_standing_is (length old) text c.if-out-lt-ROOM.false (Err f) b;
     }

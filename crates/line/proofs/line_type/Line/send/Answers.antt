@@ -88,7 +88,7 @@ returns g c =
             answer = ap sent_by nothing;
             buffer = coded ∙ ap (λ (x : Code). block_in x m run) f.code_is ∙ ap (run_by b m run) nothing;
             book = sent_follows o.bits o.room b l f m run c.put_bits.new.out c.saturating-add-self-2.result nothing
-                (record { long = small.message_long; bytes = λ i. omega (arith, c.type-inv.message i) })
+                (record { long = small.message_long; bytes = λ i. omega (arith, c.type_inv.message i) })
                 (omega (arith, c.saturating-add-self-2.ensures, f.done_is, few b (omega (arith, ap length f.bits_are, o.lawful.within l.randomizer.below, c.capacity.ensures))))
                 (k₂.0 ∙ k₁.0) (k₂.1 ∙ k₁.1) (o.lawful.steady _ _ k₂.2 ∙ o.lawful.steady _ _ k₁.2) taken;
           };
