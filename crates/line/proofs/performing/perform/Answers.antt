@@ -41,12 +41,12 @@ returns g c =
     let h = c.loop-i.invariant.0 b c.open-line.ensures.follows in
     let all : take c.loop-i.i ys ≡ ys = take_all c.loop-i.i ys c.loop-i-test.false in
     let mine : take c.loop-i.i c.loop-i.calls ≡ c.loop-i.calls = take_all c.loop-i.i c.loop-i.calls (omega arith) in
-    let out = c.into-outlet.ensures in
+    let out = c.into_outlet.ensures in
     let answers : map seen c.loop-i.calls ≡ served_calls b (map seen ys) = sym (ap (map seen) mine) ∙ h.1 ∙ ap (λ (z : List Call). served_calls b (map seen z)) all in
-    let held : o.bits c.into-outlet.result ≡ written (book_after b (map seen ys)) = ap o.bits out ∙ h.0.bits_are ∙ ap (λ (z : List Call). written (book_after b (map seen z))) all in
+    let held : o.bits c.into_outlet.result ≡ written (book_after b (map seen ys)) = ap o.bits out ∙ h.0.bits_are ∙ ap (λ (z : List Call). written (book_after b (map seen z))) all in
     record {
       answers = answers;
       outlet = held;
-      law = subst (λ (z : List Entry). LineLaw code opening capacity (map seen ys) z (o.bits c.into-outlet.result)) (sym answers) (line_law code opening capacity (map seen ys) (o.bits c.into-outlet.result) held);
-      kept = subst (λ z. o.kept z c.into-outlet.result) c.open-line.ensures.outlet (subst (λ z. o.kept c.open-line.result.randomizer.below z) (sym out) c.loop-i.invariant.2);
+      law = subst (λ (z : List Entry). LineLaw code opening capacity (map seen ys) z (o.bits c.into_outlet.result)) (sym answers) (line_law code opening capacity (map seen ys) (o.bits c.into_outlet.result) held);
+      kept = subst (λ z. o.kept z c.into_outlet.result) c.open-line.ensures.outlet (subst (λ z. o.kept c.open-line.result.randomizer.below z) (sym out) c.loop-i.invariant.2);
     }

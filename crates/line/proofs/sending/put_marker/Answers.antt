@@ -19,7 +19,7 @@ loop-i-preserved g c =
     let base = o.bits c.args.out.now in
     let room : o.room c.loop-i.out ≡ o.room c.args.out.now = o.lawful.steady _ _ inv.1 in (
       put_more base (map mark (range_with_len 0 i)) _ _ _ (o.room c.loop-i.out) inv.0 c.take.ensures.after (omega (arith, room, length-map-range_with_len mark 0 i, c.requires))
-          ∙ ap (λ (y : Bit). base ++ (map mark (range_with_len 0 i) ++ (y ∷ []))) c.marker-bit.ensures
+          ∙ ap (λ (y : Bit). base ++ (map mark (range_with_len 0 i) ++ (y ∷ []))) c.marker_bit.ensures
           ∙ ap (λ (z : List Bit). base ++ z) (sym (map-range_with_len_more mark 0 i i (omega arith))),
       o.lawful.transitive _ _ _ inv.1 c.take.ensures.rest,
     )

@@ -9,5 +9,5 @@ pub loop-i-preserved : goal.loop-i-preserved
 unfolding place_bit
 loop-i-preserved c =
     let i = c.loop-i.i in
-    ap (λ (z : List Bit). set z i c.read-bit.result) c.loop-i.invariant
-    ∙ filled_more (place_bit c.args.message.now) c.args.run.now Zero i c.read-bit.result (omega (arith, c.requires)) c.read-bit.ensures
+    ap (λ (z : List Bit). set z i c.byte_bit.result) c.loop-i.invariant
+    ∙ filled_more (place_bit c.args.message.now) c.args.run.now Zero i c.byte_bit.result (omega (arith, c.requires)) c.byte_bit.ensures

@@ -15,8 +15,8 @@ use Rattle.line.proofs.Books.{sendable, few}
 use Rattle.line.proofs.Following.{due_here, refused_follows, sent_follows}
 use Rattle.line.proofs.line_type.Line.send.Goals as goal
 
-pub overflow-sub-left : goal.overflow-sub-left
-overflow-sub-left g c =
+pub overflow_sub-left : goal.overflow_sub-left
+overflow_sub-left g c =
     let l = c.args.self.now in
     omega (arith, c.held.ensures, c.capacity.ensures, length_masked (randomizing l.randomizer.start l.randomizer.code) (g.O.Outlet.bits l.randomizer.below), g.O.Outlet.lawful.within l.randomizer.below)
 
@@ -34,30 +34,30 @@ returns-in-Some g c =
           record {
             answer = ap sent_by stop;
             buffer = ap (run_by b m run) stop;
-            book = refused_follows o.bits o.room b l f m run c.in-Some.fault c.saturating-add-self.result stop c.saturating-add-self.ensures;
+            book = refused_follows o.bits o.room b l f m run c.in-Some.fault c.saturating_add-self.result stop c.saturating_add-self.ensures;
           };
       block = λ code m. whole_is code m;
       kept = o.lawful.reflexive _;
     }
 
-pub put-marker-requires : goal.put-marker-requires
-put-marker-requires g c =
+pub put_marker-requires : goal.put_marker-requires
+put_marker-requires g c =
     let l = c.args.self.now in
     let o = g.O.Outlet in
     let low = o.bits l.randomizer.below in
     let able = sendable l.code (c.capacity.result - c.held.result) (length c.args.message.now) (length c.args.run.now) c.in_default.ensures in
     omega (arith, able.room_left, c.capacity.ensures, c.held.ensures, length_masked (randomizing l.randomizer.start l.randomizer.code) low)
 
-pub put-bits-requires : goal.put-bits-requires
-put-bits-requires g c =
+pub put_bits-requires : goal.put_bits-requires
+put_bits-requires g c =
     let l = c.args.self.now in
     let o = g.O.Outlet in
     let low = o.bits l.randomizer.below in
     let able = sendable l.code (c.capacity.result - c.held.result) (length c.args.message.now) (length c.args.run.now) c.in_default.ensures in
     let mask = masked (randomizing l.randomizer.start l.randomizer.code) low in
-    let held = ap length c.put-marker.ensures.bits ∙ length-append mask marker in
-    let cut : length (take (c.block-len.result - 0) c.encode.new.run) ≡ c.block-len.result - 0 = length-take-le _ _ (omega (arith, c.block-len.ensures, able.run_long, whole_size l.code, sent_size l.code, c.encode.auto.run, c.spread.auto.run)) in
-    omega (arith, able.room_left, c.capacity.ensures, c.held.ensures, cut, held, length_marker, c.block-len.ensures, length_masked (randomizing l.randomizer.start l.randomizer.code) low, o.lawful.steady _ _ c.put-marker.ensures.kept.2)
+    let held = ap length c.put_marker.ensures.bits ∙ length-append mask marker in
+    let cut : length (take (c.block_len.result - 0) c.encode.new.run) ≡ c.block_len.result - 0 = length-take-le _ _ (omega (arith, c.block_len.ensures, able.run_long, whole_size l.code, sent_size l.code, c.encode.auto.run, c.spread.auto.run)) in
+    omega (arith, able.room_left, c.capacity.ensures, c.held.ensures, cut, held, length_marker, c.block_len.ensures, length_masked (randomizing l.randomizer.start l.randomizer.code) low, o.lawful.steady _ _ c.put_marker.ensures.kept.2)
 
 pub returns : goal.returns
 unfolding message_bits
@@ -73,13 +73,13 @@ returns g c =
     let able = sendable code (c.capacity.result - c.held.result) (length m) (length run) c.in_default.ensures in
     let spread : c.spread.new.run ≡ message_bits code m ++ drop (8 * message_len code) run = c.spread.ensures ∙ ap (λ n. packed_bits m (8 * n) ++ drop (8 * n) run) able.message_long in
     let coded : c.encode.new.run ≡ block_in code m run = coded_is code m run _ _ able.run_long spread c.encode.ensures.after in
-    let cut : take (c.block-len.result - 0) c.encode.new.run ≡ block code m =
-    let all : c.block-len.result - 0 ≡ sent (shape_of code) = omega (arith, c.block-len.ensures) in
+    let cut : take (c.block_len.result - 0) c.encode.new.run ≡ block code m =
+    let all : c.block_len.result - 0 ≡ sent (shape_of code) = omega (arith, c.block_len.ensures) in
     ap₂ (λ (n : ℕ) (z : List Bit). take n z) all coded
     ∙ take-append-le (sent (shape_of code)) (whole_block code m) (drop (whole (shape_of code)) run) (omega (arith, (whole_is code m).long, whole_size code, sent_size code)) in
-    let k₁ = c.put-marker.ensures.kept in
+    let k₁ = c.put_marker.ensures.kept in
     let k₂ = c.put_bits.ensures.kept in
-    let taken = c.put_bits.ensures.bits ∙ ap₂ (λ (x y : List Bit). x ++ y) c.put-marker.ensures.bits cut in
+    let taken = c.put_bits.ensures.bits ∙ ap₂ (λ (x y : List Bit). x ++ y) c.put_marker.ensures.bits cut in
     record {
       sends = λ b f.
           let nothing : None ≡ due_to_send b m run = c.in_default.ensures ∙ ap (λ n. send_due code n (length m) (length run)) left ∙ due_here o.bits o.room b l f m run in
@@ -87,9 +87,9 @@ returns g c =
           record {
             answer = ap sent_by nothing;
             buffer = coded ∙ ap (λ (x : Code). block_in x m run) f.code_is ∙ ap (run_by b m run) nothing;
-            book = sent_follows o.bits o.room b l f m run c.put_bits.new.out c.saturating-add-self-2.result nothing
+            book = sent_follows o.bits o.room b l f m run c.put_bits.new.out c.saturating_add-self-2.result nothing
                 (record { long = small.message_long; bytes = λ i. omega (arith, c.type_inv.message i) })
-                (omega (arith, c.saturating-add-self-2.ensures, f.done_is, few b (omega (arith, ap length f.bits_are, o.lawful.within l.randomizer.below, c.capacity.ensures))))
+                (omega (arith, c.saturating_add-self-2.ensures, f.done_is, few b (omega (arith, ap length f.bits_are, o.lawful.within l.randomizer.below, c.capacity.ensures))))
                 (k₂.0 ∙ k₁.0) (k₂.1 ∙ k₁.1) (o.lawful.steady _ _ k₂.2 ∙ o.lawful.steady _ _ k₁.2) taken;
           };
       block = λ code m. whole_is code m;
