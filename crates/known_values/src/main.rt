@@ -86,7 +86,7 @@ fn tell_table(rt: &HostRuntime, name: &str, code: Code, lines: &[&str]) -> anyho
     let mut agree: usize = 0;
     for (k, line) in lines.iter().enumerate() {
         let held = first_row(rt.alloc(), code, k)?;
-        if held == *line {
+        if held.as_str() == *line {
             agree = agree.saturating_add(1);
             continue;
         }

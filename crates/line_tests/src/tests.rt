@@ -66,7 +66,7 @@ fn room_for_one_frame(rt: HostRuntime) -> Result<(), Fail> {
                 assert_eq!(rt; line.send(&message(7)[..], &mut work), due);
             }
             assert!(rt; line.counts() == (sends, 3 - sends as u32));
-            assert_eq!(rt; line.into_outlet().held(), sends * size);
+            assert_eq!(rt; line.into_outlet().held(), sends.saturating_mul(size));
         }
     }
     Ok(())

@@ -14,6 +14,6 @@ pub returns : goal.returns
 unfolding both
 returns c =
     let made = c.empty-packed.result in
-    c.into-bytes.ensures.since (vec_items made.bytes) made.held (ap (λ n. n % 8) c.empty-packed.ensures.held) c.put-two.ensures.rest
-    ∙ ap (bytes_after (vec_items made.bytes) made.held) c.put-two.ensures.after
+    c.into_bytes.ensures.since (vec_items made.bytes) made.held (ap (λ n. n % 8) c.empty-packed.ensures.held) c.put_two.ensures.rest
+    ∙ ap (bytes_after (vec_items made.bytes) made.held) c.put_two.ensures.after
     ∙ ap₂ (both c.args.a c.args.b) c.empty-packed.ensures.held c.empty-packed.ensures.bytes
