@@ -1,5 +1,5 @@
 -- The codes: their numbers, and their shapes.
-use Rattle.std.specs.Prelude.{◌≡◌, refl, Bool, true, cond, List, ℕ, eqb}
+use Rattle.std.specs.Prelude.{◌≡◌, refl, true, cond, List, ℕ, eqb}
 use Rattle.refusal.specs.Outcome.{Outcome, Outcome.done, Outcome.refused}
 use Rattle.qc.specs.declared.terms.Permutation.{Permutation}
 use Rattle.qc.specs.Equation.{Equation, Operator.Π, Operator.◌⊞◌}

@@ -2,7 +2,7 @@
 -- column as the standard prints it. The first block row has none. The matrix of rate 4/5 is six columns
 -- and then that of rate 1/2.
 use Rattle.std.specs.Prelude.{ℕ, ◌-◌}
-use Rattle.qc.specs.Equation.{Operator, Equation, Operator.Identity, Operator.Π, Operator.◌⊞◌, Equation.◌of◌, Equation.◌⊕◌}
+use Rattle.qc.specs.Equation.{Equation, Operator.Identity, Operator.Π, Operator.◌⊞◌, Equation.◌of◌, Equation.◌⊕◌}
 
 -- the message groups u 1, u 2 and so on; groups are numbered from 0
 abbrev u : ℕ → ℕ

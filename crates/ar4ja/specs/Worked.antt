@@ -1,7 +1,7 @@
 -- Worked values of the codes: what the definitions give, beside what it has to be.
 use Rattle.std.specs.Prelude.{Bool, true, ◌&&◌, List, [], ◌∷◌, ℕ, ◌+◌, eqb, get_or}
 use Rattle.qc.specs.Permutation.{π, absent}
-use Rattle.qc.specs.Shape.{Shape, M, sent, whole, permutations}
+use Rattle.qc.specs.Shape.{M, sent, whole, permutations}
 use Rattle.ar4ja.specs.declared.codes.Code.{Code}
 use Rattle.ar4ja.specs.declared.codes.Code.TheVariants.{Half1024, TwoThirds1024, FourFifths1024}
 use Rattle.ar4ja.specs.Codes.{shape_of}

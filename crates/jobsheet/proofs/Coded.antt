@@ -8,7 +8,7 @@ use Rattle.element.specs.declared.Bit.TheVariants.{Zero}
 use Rattle.element.specs.Bits.{bit_plus, bit_laws}
 use Rattle.qc.specs.Shape.{Shape, M, whole}
 use Rattle.qc.specs.Segments.{segments}
-use Rattle.qc.specs.Coding.{parity, encoded}
+use Rattle.qc.specs.Coding.{encoded}
 use Rattle.qc.proofs.Soundness.{sounds}
 use Rattle.qc.proofs.Encoded.{parity_alike, encoded_parity}
 use Rattle.ar4ja.specs.declared.codes.Code.{Code}

@@ -5,7 +5,7 @@ use Rattle.std.proofs.lemmas.Bool.{and_parts, and_from, ltb-true}
 use Rattle.std.proofs.lemmas.List.{length-append, get_or_append_left, get_or-append_right}
 use Rattle.qc.specs.declared.terms.Permutation.{Permutation}
 use Rattle.qc.specs.declared.terms.Term.{Term}
-use Rattle.qc.specs.Equation.{Operator, Equation, Operator.Identity, Operator.Π, Operator.◌⊞◌, Equation.◌of◌}
+use Rattle.qc.specs.Equation.{Operator, Equation, Operator.Identity, Operator.Π, Operator.◌⊞◌}
 use Rattle.qc.specs.Shape.{Shape, M, z, permutations, asked, closing, known}
 use Rattle.qc.specs.Sound.{all, term_sound}
 use Rattle.qc.specs.Terms.{operator_terms, terms}

@@ -6,10 +6,10 @@ use Rattle.std.proofs.lemmas.Nat.{mul-add-lt, div-mul-add, mod-mul-add}
 use Rattle.std.proofs.lemmas.List.FromFn.{length-map-range_with_len, get_or-map-range_with_len}
 use Rattle.std.proofs.lemmas.List.{length-append, length-take-le, length-drop, get_or_append_left, get_or-append-add, get_or-take, get_or-drop, ext_get_or}
 use Rattle.element.specs.Laws.{Laws}
-use Rattle.qc.specs.Shape.{Shape, M, a, b, sent, whole}
+use Rattle.qc.specs.Shape.{Shape, M, b, sent, whole}
 use Rattle.qc.specs.Segments.{segments, Written}
 use Rattle.qc.specs.Circulant.{act}
-use Rattle.qc.specs.Codeblock.{groups, punctured, completed}
+use Rattle.qc.specs.Codeblock.{completed}
 use Rattle.qc.specs.Coding.{Tables, first_row, parity, with_parity, encoded}
 use Rattle.qc.proofs.Sums.{sum_ext}
 use Rattle.qc.proofs.FirstRows.{act_same}

@@ -7,7 +7,7 @@ use Rattle.element.specs.Laws.{Laws}
 use Rattle.qc.specs.declared.terms.Permutation.{Permutation}
 use Rattle.qc.specs.declared.terms.Term.{Term}
 use Rattle.qc.specs.Equation.{Equation}
-use Rattle.qc.specs.Shape.{Shape, M, sent, whole, first, second, known, third, permutations, value}
+use Rattle.qc.specs.Shape.{Shape, M, sent, whole, first, second, known, permutations, value}
 use Rattle.qc.specs.Codeblock.{block_row, row, AllZero, completed_by, Codeblock, groups, punctured, completed, lowest}
 use Rattle.qc.specs.Check.{lowest_row}
 use Rattle.qc.specs.Terms.{terms}

@@ -1,5 +1,5 @@
 -- What the coders write: by the generator table, and by the rows with the inverse table.
-use Rattle.std.specs.Prelude.{◌≡◌, ℕ, ◌+◌, ◌-◌, ◌*◌, ◌/◌, ◌%◌, ◌<◌, ◌≤◌, cond, List, ◌++◌, map, length, take, drop, nat_lt, slice_index_or}
+use Rattle.std.specs.Prelude.{◌≡◌, ℕ, ◌+◌, ◌*◌, ◌/◌, ◌%◌, ◌<◌, ◌≤◌, cond, List, ◌++◌, map, length, take, drop, nat_lt, slice_index_or}
 use Rattle.std.specs.List.{range_with_len}
 use Rattle.refusal.specs.Outcome.{Outcome, Outcome.done, Outcome.refused}
 use Rattle.qc.specs.declared.answers.RunFault.TheVariants.{TooShort}

@@ -1,4 +1,4 @@
-use Rattle.std.proofs.Common.{◌≡◌, ◌+◌, List, set, ap, ◌∙◌, ap₂, arith}
+use Rattle.std.proofs.Common.{◌+◌, List, set, ap, ◌∙◌, ap₂, arith}
 use Rattle.element.specs.declared.Bit.{Bit}
 use Rattle.element.specs.declared.Bit.TheVariants.{Zero}
 use Rattle.element.specs.Bits.{bit_plus}

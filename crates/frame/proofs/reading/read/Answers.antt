@@ -1,17 +1,11 @@
-use Rattle.std.proofs.Common.{◌≡◌, ℕ, ◌≤◌, List, ◌++◌, length, drop, Some, None, Ok, Option, sym, refl, ap, ◌∙◌, ap₂, arith}
+use Rattle.std.proofs.Common.{◌≡◌, ℕ, List, ◌++◌, length, drop, Some, None, Ok, sym, refl, ap, ◌∙◌, ap₂, arith}
 use Rattle.refusal.specs.Outcome.{Outcome.done}
 use Rattle.element.specs.declared.Bit.{Bit}
-use Rattle.element.specs.declared.Bit.TheVariants.{Zero}
-use Rattle.element.specs.Bits.{bit_plus, bit_same}
-use Rattle.qc.specs.Shape.{whole}
-use Rattle.qc.specs.Codeblock.{completed}
-use Rattle.qc.specs.Check.{lowest_row, check_answer, checked_run}
-use Rattle.ar4ja.specs.Codes.{shape_of}
 use Rattle.frame.specs.declared.faults.ReadFault.TheVariants.{NoMarker, Fails}
 use Rattle.frame.specs.Message.{message_bytes}
 use Rattle.frame.specs.Reading.{due, received, received_run, worked_run, judged, filled}
 use Rattle.frame.proofs.Marks.{one_way, none_some}
-use Rattle.frame.proofs.Readings.{admitted, sent_within, message_within, passes_none, fails_some, fails_not, refused_done, answer_is, run_is, message_is, unmarked, accepted, turned_down, long_enough, failing_row, run_worked, good_of, of_good}
+use Rattle.frame.proofs.Readings.{admitted, sent_within, message_within, passes_none, fails_some, fails_not, answer_is, run_is, message_is, unmarked, accepted, turned_down, long_enough, failing_row, run_worked, good_of, of_good}
 use Rattle.frame.proofs.reading.read.Goals as goal
 
 pub returns-in-Some : goal.returns-in-Some

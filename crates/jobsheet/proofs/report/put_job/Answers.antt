@@ -1,4 +1,4 @@
-use Rattle.std.proofs.Common.{◌≡◌, ℕ, ◌+◌, ◌≤◌, List, ◌++◌, length, codes, decimal, ap, ◌∙◌, ap₂, append_assoc, arith}
+use Rattle.std.proofs.Common.{◌≡◌, ℕ, ◌≤◌, List, ◌++◌, length, codes, decimal, ap, ◌∙◌, ap₂, append_assoc, arith}
 use Rattle.jobsheet.specs.Printing.{printed}
 use Rattle.jobsheet.proofs.Fronts.{front_first, front_more, five, one, word_five}
 use Rattle.jobsheet.proofs.report.put_job.Goals as goal

@@ -1,4 +1,4 @@
-use Rattle.std.proofs.Common.{◌≡◌, ◌+◌, ◌-◌, ◌*◌, ◌/◌, ◌%◌, ◌<◌, length, get_or, take, ap, ◌∙◌, ap₂, arith}
+use Rattle.std.proofs.Common.{◌≡◌, ◌+◌, ◌-◌, ◌*◌, ◌/◌, ◌%◌, ◌<◌, length, get_or, ap, ◌∙◌, arith}
 use Rattle.qc.specs.Circulant.{bit, number, ones_of}
 use Rattle.qc.proofs.Ones.{bit_number, ones_step}
 use Rattle.qc.proofs.circulant.list_ones.Goals as goal

@@ -1,4 +1,4 @@
-use Rattle.std.proofs.Common.{◌≡◌, ℕ, ◌+◌, ◌-◌, ◌*◌, ◌/◌, ◌%◌, ◌<◌, ◌≤◌, length, get_or, sym, ◌∙◌, subst, mul-le-mul_right, add-mul, arith, rules}
+use Rattle.std.proofs.Common.{◌≡◌, ℕ, ◌+◌, ◌*◌, ◌/◌, ◌%◌, ◌<◌, ◌≤◌, length, get_or, sym, ◌∙◌, subst, mul-le-mul_right, add-mul, arith, rules}
 use Rattle.qc.specs.Segments.{segments}
 use Rattle.qc.specs.Coding.{first_row}
 use Rattle.qc.specs.Product.{product_at}

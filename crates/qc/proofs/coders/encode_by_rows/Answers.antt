@@ -1,4 +1,4 @@
-use Rattle.std.proofs.Common.{◌≡◌, ◌+◌, ◌-◌, ◌*◌, ◌/◌, ◌%◌, List, length, ap, ◌∙◌, subst, ap₂, arith, rules}
+use Rattle.std.proofs.Common.{◌≡◌, ◌+◌, ◌*◌, ◌/◌, ◌%◌, List, length, ap, ◌∙◌, subst, ap₂, arith, rules}
 use Rattle.qc.specs.Shape.{M, permutations, asked, closing}
 use Rattle.qc.specs.Terms.{terms}
 use Rattle.qc.specs.Segments.{segments, segment_sum}

@@ -1,4 +1,4 @@
-use Rattle.std.proofs.Common.{ℕ, ◌+◌, List, ◌++◌, length, Ok, Err, ap, ◌∙◌, arith, length-append}
+use Rattle.std.proofs.Common.{ℕ, List, ◌++◌, length, Ok, Err, ap, ◌∙◌, arith, length-append}
 use Rattle.jobsheet.specs.declared.names.Order.{Order}
 use Rattle.jobsheet.specs.Refusals.{sheet_fault}
 use Rattle.jobsheet.specs.Printing.{heading, ended, refusal_text, printed, front}
