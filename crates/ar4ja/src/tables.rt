@@ -1,5 +1,5 @@
-// The tables of the codes with 1,024 information bits, as words of 32 bits, the most significant first. One line
-// to a first row. A generator has 8 first rows for each message segment: of a's four segments, then of b's.
+// The tables of the codes with 1,024 information bits, as words of 32 bits, the most significant first: m/32 words to
+// a first row. A generator has 8 first rows for each message segment: of a's four segments, then of b's.
 // An inverse, of I + (Π2 + Π3 + Π4)(Π7 + Π8), has 4 first rows for each of four segments.
 
 // Rate 1/2.

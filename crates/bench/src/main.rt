@@ -103,7 +103,6 @@ fn megabits(blocks: u64, ns: u64) -> u64 {
         .unwrap_or(0)
 }
 
-// Times a kind whose elements hold the same place of so many blocks.
 // How many job lines a sheet of at most 65,536 bytes has room for.
 const JOBS: u64 = 247;
 
@@ -136,6 +135,7 @@ fn best_sheet(rt: &HostRuntime, job: &[u8]) -> anyhow::Result<u64> {
     Ok(best)
 }
 
+// Times a kind whose elements hold the same place of so many blocks.
 fn time_kind<E: Element + Clone>(rt: &HostRuntime, kind: &str, blocks: u64) -> anyhow::Result<()> {
     for code in CODES {
         let n = code.number();

@@ -25,8 +25,8 @@ length_part from m xs h =
     let wide : from + m - from ≡ m = omega arith in
     ap (λ k. length (take k (drop from xs))) wide ∙ length-take-le m (drop from xs) (omega (arith, length-drop from xs))
 
-pub get_d_part : {X : Type 0} (from m : ℕ) (xs : List X) (i : ℕ) (d : X) → i < m → get_or (take (from + m - from) (drop from xs)) i d ≡ get_or xs (from + i) d
-get_d_part from m xs i d h = get_or-take (from + m - from) (drop from xs) i d (omega arith) ∙ get_or-drop from xs i d
+pub get_or_part : {X : Type 0} (from m : ℕ) (xs : List X) (i : ℕ) (d : X) → i < m → get_or (take (from + m - from) (drop from xs)) i d ≡ get_or xs (from + i) d
+get_or_part from m xs i d h = get_or-take (from + m - from) (drop from xs) i d (omega arith) ∙ get_or-drop from xs i d
 
 -- a list whose k places from `from` on were written over by ys
 module _ {X : Type 0} (from k : ℕ) (xs ys : List X) (fits : from + k ≤ length xs) (long : length ys ≡ k) where

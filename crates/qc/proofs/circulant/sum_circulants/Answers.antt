@@ -2,7 +2,7 @@ use Rattle.std.proofs.Common.{◌≡◌, ◌+◌, ◌-◌, ◌*◌, ◌/◌, ◌
 use Rattle.qc.specs.Segments.{segments}
 use Rattle.qc.specs.Circulant.{sum, act, number}
 use Rattle.qc.specs.Coding.{first_row}
-use Rattle.qc.proofs.Reach.{held, row_below, length_part, get_d_part}
+use Rattle.qc.proofs.Reach.{held, row_below, length_part, get_or_part}
 use Rattle.qc.proofs.FirstRows.{act_same}
 use Rattle.qc.proofs.circulant.sum_circulants.Goals as goal
 
@@ -78,7 +78,7 @@ loop-r-preserved g c = λ s h.
     c.add_circulant.ensures s (omega (arith, c.loop-r.auto.sums, c.clear.auto.sums))
     ∙ ap₂ e.plus (c.loop-r.invariant s h)
     (ap (λ n. act e.zero e.plus n (number c.args.words.now start (n / 32)) (λ i. get_or part i e.zero) s) long
-    ∙ act_same e.laws m (number c.args.words.now start (m / 32)) (λ i. get_or part i e.zero) (segments e.zero m run (p.source + r)) s (λ i l. get_d_part from m run i e.zero l))
+    ∙ act_same e.laws m (number c.args.words.now start (m / 32)) (λ i. get_or part i e.zero) (segments e.zero m run (p.source + r)) s (λ i l. get_or_part from m run i e.zero l))
     ∙ sym (ap (λ n. sum e.zero e.plus n (λ r. act e.zero e.plus m (first_row m c.args.words.now (p.targets * r + c.args.q)) (segments e.zero m run (p.source + r)) s)) (add-one r))
 
 pub returns : goal.returns

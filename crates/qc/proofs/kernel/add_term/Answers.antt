@@ -1,6 +1,6 @@
 use Rattle.std.proofs.Common.{ℕ, ◌+◌, ◌-◌, ◌*◌, ◌%◌, ◌<◌, length, get_or, take, drop, sym, ap, ◌∙◌, mod-lt, arith, rules}
 use Rattle.qc.specs.Permutation.{absent}
-use Rattle.qc.proofs.Reach.{inside, length_part, get_d_part}
+use Rattle.qc.proofs.Reach.{inside, length_part, get_or_part}
 use Rattle.qc.proofs.kernel.add_term.Goals as goal
 
 pub overflow_mul-from : goal.overflow_mul-from
@@ -46,4 +46,4 @@ returns g c =
     let long = length_part from m run h.part in
     let at = λ (n : ℕ). get_or (take (from + m - from) (drop from run)) ((s + get_or p.phi c.args.j 0) % n) e.zero in
     c.add_rotated.ensures s hs
-    ∙ ap (e.plus (get_or c.args.sums.now s e.zero)) (ap at long ∙ get_d_part from m run _ e.zero (mod-lt _ pos))
+    ∙ ap (e.plus (get_or c.args.sums.now s e.zero)) (ap at long ∙ get_or_part from m run _ e.zero (mod-lt _ pos))
