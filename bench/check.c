@@ -1,6 +1,7 @@
 /* The check of a block by hand in C, for docs/SPEED.md: the same structure as the product's, one byte or one
  * 64-bit word to an element. Build twice, and run:
  *
+ *     mkdir -p target
  *     cc -O3 -DELEMENT=uint8_t  bench/check.c -o target/check8  && target/check8
  *     cc -O3 -DELEMENT=uint64_t bench/check.c -o target/check64 && target/check64
  */
