@@ -1,10 +1,10 @@
 -- Bits: the sum modulo two.
-use Rattle.std.specs.Prelude.{◌≡◌, Bool, true, false, refl}
+use Rattle.std.specs.Prelude.{◌≡◌, ℕ, Bool, true, false, refl}
 use Rattle.std.proofs.Common.{subst}
 use Rattle.std.proofs.lemmas.Bool.{false≢true}
 use Rattle.element.specs.Laws.{Laws}
-use Rattle.element.specs.declared.Bit.{Bit}
-use Rattle.element.specs.declared.Bit.TheVariants.{Zero, One}
+use Rattle.element.specs.declared.bits.Bit.{Bit}
+use Rattle.element.specs.declared.bits.Bit.TheVariants.{Zero, One}
 
 abbrev pub bit_zero : Bit
 bit_zero = Zero
@@ -20,6 +20,15 @@ bit_same Zero Zero = true
 bit_same Zero One = false
 bit_same One Zero = false
 bit_same One One = true
+
+-- the bit of a yes or no, and a bit as a number
+abbrev pub bit_if : Bool → Bit
+bit_if false = Zero
+bit_if true = One
+
+abbrev pub weight : Bit → ℕ
+weight Zero = 0
+weight One = 1
 
 assoc : (x y z : Bit) → bit_plus (bit_plus x y) z ≡ bit_plus x (bit_plus y z)
 assoc Zero Zero Zero = refl

@@ -6,9 +6,9 @@ use Rattle.std.proofs.lemmas.Nat.{xor_comm}
 use Rattle.std.proofs.lemmas.Bool.{eqb-true, eq-eqb, and_parts, and_from}
 use Rattle.element.specs.Laws.{Laws}
 use Rattle.element.specs.Bits.{bit_plus, bit_same, bit_laws}
-use Rattle.element.specs.declared.Bit.{Bit}
-use Rattle.element.specs.declared.Bit.TheVariants.{Zero}
-use Rattle.element.specs.declared.Form.{Form}
+use Rattle.element.specs.declared.bits.Bit.{Bit}
+use Rattle.element.specs.declared.bits.Bit.TheVariants.{Zero}
+use Rattle.element.specs.declared.affine.Form.{Form}
 
 abbrev form : Bit → ℕ → Form
 form b n = record { bit = b; unknowns = n }

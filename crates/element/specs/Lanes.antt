@@ -5,7 +5,7 @@ use Rattle.std.specs.Int.Bits.{xor_assoc, xor_self}
 use Rattle.std.proofs.lemmas.Nat.{xor_comm}
 use Rattle.std.proofs.lemmas.Bool.{eqb-true, eq-eqb}
 use Rattle.element.specs.Laws.{Laws}
-use Rattle.element.specs.declared.Lanes.{Lanes}
+use Rattle.element.specs.declared.side_by_side.Lanes.{Lanes}
 
 abbrev lanes : ℕ → Lanes
 lanes n = record { bits = n }
