@@ -1,13 +1,15 @@
 -- Terms of groups before or after one that is written.
-use Rattle.std.proofs.Common.{◌≡◌, ℕ, zero, suc, ◌+◌, ◌-◌, ◌*◌, ◌<◌, ◌≤◌, Bool, true, ◌⊎◌, List, [], ◌∷◌, ◌++◌, length, get_or, sym, refl, ap, ◌∙◌, subst, inl, inr, mul-le-mul_right, mul_assoc, mul_comm, add-mul, arith}
+use Rattle.std.proofs.Common.{◌≡◌, ℕ, zero, suc, ◌+◌, ◌-◌, ◌*◌, ◌<◌, ◌≤◌, true, ◌⊎◌, List, [], ◌++◌, length, get_or, sym, refl, ap, ◌∙◌, subst, inl, inr, mul-le-mul_right, mul_assoc, mul_comm, add-mul, arith}
 use native.Mathlib.Decide.{dec_lt}
+use Rattle.std.specs.List.{list_all}
 use Rattle.std.proofs.lemmas.Bool.{and_parts, and_from, ltb-true}
+use Rattle.std.proofs.lemmas.List.Folds.{list_all-append}
 use Rattle.std.proofs.lemmas.List.{length-append, get_or_append_left, get_or-append_right}
 use Rattle.qc.specs.declared.terms.Permutation.{Permutation}
 use Rattle.qc.specs.declared.terms.Term.{Term}
 use Rattle.qc.specs.Equation.{Operator, Equation, Operator.Identity, Operator.Π, Operator.◌⊞◌}
 use Rattle.qc.specs.Shape.{Shape, M, z, permutations, asked, closing, known}
-use Rattle.qc.specs.Sound.{all, term_sound}
+use Rattle.qc.specs.Sound.{term_sound}
 use Rattle.qc.specs.Terms.{operator_terms, terms}
 use Rattle.qc.specs.Segments.{Apart, AllApart}
 use Rattle.qc.proofs.Soundness.{Sound, all_at}
@@ -33,7 +35,7 @@ operator_apart m from g away (Π t) (suc i) d h = absurd (omega arith)
 operator_apart m from g away (A ⊞ B) i d h = apart_append m from (operator_terms A g) (operator_terms B g) (operator_apart m from g away A) (operator_apart m from g away B) i d h
 
 -- terms of the first few groups, before a group that begins after these
-below_apart : (c : Shape) (count listed from : ℕ) → count * (4 * c.m) ≤ from → (ts : List Term) → all (term_sound count listed) ts ≡ true → AllApart c.m from ts
+below_apart : (c : Shape) (count listed from : ℕ) → count * (4 * c.m) ≤ from → (ts : List Term) → list_all (term_sound count listed) ts ≡ true → AllApart c.m from ts
 below_apart c count listed from fits ts e i d h =
     let t = get_or ts i d in
     let low : t.group < count = ltb-true _ _ (and_parts _ _ (all_at (term_sound count listed) ts e i d h)).0 in
@@ -42,24 +44,18 @@ below_apart c count listed from fits ts e i d h =
     let b : (t.group + 1) * (4 * c.m) ≡ (4 * t.group + 4) * c.m = omega (arith, sym (mul_assoc (t.group + 1) 4 c.m), mul_comm (t.group + 1) 4) in
     inl (omega (arith, a, b, fits))
 
-all_join : {X : Type 0} (test : X → Bool) (xs ys : List X) → all test xs ≡ true → all test ys ≡ true → all test (xs ++ ys) ≡ true
-all_join test [] ys e f = f
-all_join test (x ∷ xs) ys e f =
-    let both = and_parts (test x) (all test xs) e in
-    and_from (test x) (all test (xs ++ ys)) both.0 (all_join test xs ys both.1 f)
-
 module _ (c : Shape) (ok : Sound c) where
   groups_at : (k : ℕ) → 4 * k * c.m ≡ k * M c
   groups_at k = ap (λ n. n * c.m) (mul_comm 4 k) ∙ mul_assoc k 4 c.m
 
   -- what the check coder reads can be read
-  pub asked_sound : all (term_sound (c.K + 3) (length (permutations c))) (terms (asked c)) ≡ true
+  pub asked_sound : list_all (term_sound (c.K + 3) (length (permutations c))) (terms (asked c)) ≡ true
   asked_sound =
       let test = term_sound (c.K + 3) (length (permutations c)) in
       let parts = all_append test (terms c.u2) (operator_terms Identity (c.K + 1) ++ operator_terms c.P (z c)) ok.second_sound in
-      all_join test (terms c.u2) (operator_terms c.P (z c)) parts.0 (and_parts _ _ parts.1).1
+      list_all-append test (terms c.u2) (operator_terms c.P (z c)) ∙ and_from _ _ parts.0 (and_parts _ _ parts.1).1
 
-  pub closing_sound : all (term_sound (c.K + 3) (length (permutations c))) (terms (closing c)) ≡ true
+  pub closing_sound : list_all (term_sound (c.K + 3) (length (permutations c))) (terms (closing c)) ≡ true
   closing_sound = (and_parts _ _ ok.first_sound).1
 
   -- and is apart from what it writes

@@ -1,20 +1,15 @@
 -- The table coder's product is the parity.
 use Rattle.std.proofs.Common.{◌≡◌, ℕ, ◌+◌, ◌-◌, ◌*◌, ◌/◌, ◌%◌, ◌≤◌, Bool, List, length, ap, ◌∙◌, zero-add, arith}
 use Rattle.element.specs.Laws.{Laws}
-use Rattle.qc.specs.declared.circulant.Product.{Product}
 use Rattle.qc.specs.Shape.{Shape, M, whole}
 use Rattle.qc.specs.Segments.{segments, Written}
-use Rattle.qc.specs.Circulant.{act}
+use Rattle.qc.specs.Circulant.{sum, act}
 use Rattle.qc.specs.Coding.{Tables, first_row, parity, with_parity}
-use Rattle.qc.specs.Product.{product_at}
 use Rattle.qc.proofs.Sums.{sum_ext}
 use Rattle.qc.proofs.Soundness.{Sound}
 use Rattle.qc.proofs.Encoded.{segment_start, parts, parity_by_writing}
 
 -- a loop given m for the segment's length, the words of the table, and four times the message groups
-abbrev pub by_generator : ℕ → Product
-by_generator n = record { source = 0; sources = n; target = n; targets = 8 }
-
 pub record Given : Type 0 where
   pub m : ℕ
   pub words : List ℕ
@@ -23,10 +18,14 @@ pub record Given : Type 0 where
 abbrev pub given_as : ℕ → List ℕ → ℕ → Given
 given_as m ws n = record { m = m; words = ws; segments_of = n }
 
+-- place s of segment q of the product with all message segments
+abbrev pub by_generator : {E : Type 0} → E → (E → E → E) → Given → (ℕ → ℕ → E) → ℕ → ℕ → E
+by_generator none plus g x q s = sum none plus g.segments_of (λ r. act none plus g.m (first_row g.m g.words (8 * r + q)) (x (0 + r)) s)
+
 -- what the loop wrote
 abbrev pub Produced : {E : Type 0} → E → (E → E → E) → List E → List E → Given → Type 0
 Produced none plus xs ys g =
-    Written none (λ p. product_at none plus g.m g.words (by_generator g.segments_of) (segments none g.m xs) ((p - g.segments_of * g.m) / g.m) ((p - g.segments_of * g.m) % g.m))
+    Written none (λ p. by_generator none plus g (segments none g.m xs) ((p - g.segments_of * g.m) / g.m) ((p - g.segments_of * g.m) % g.m))
     (g.segments_of * g.m) xs ys (g.segments_of * g.m + 8 * g.m)
 
 module _ {E : Type 0} {none : E} {plus : E → E → E} {same : E → E → Bool} (laws : Laws none plus same) (c : Shape) (ok : Sound c) (t : Tables) (xs ys : List E) (fits : whole c ≤ length xs) where

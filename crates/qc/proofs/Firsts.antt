@@ -1,12 +1,13 @@
 -- Sums of terms are linear and turn as the block turns; on a block told by first rows they are first rows.
 use Rattle.std.proofs.Common.{◌≡◌, ℕ, zero, suc, ◌+◌, ◌*◌, ◌%◌, ◌<◌, Bool, true, List, [], ◌∷◌, get_or, sym, refl, ap, ◌∙◌, ap₂, mod-lt, arith}
+use Rattle.std.specs.List.{list_all}
 use Rattle.std.proofs.lemmas.Bool.{and_parts, ltb-true}
 use Rattle.element.specs.Laws.{Laws}
 use Rattle.qc.specs.declared.terms.Term.{Term}
 use Rattle.qc.specs.Permutation.{absent}
 use Rattle.qc.specs.Equation.{Operator, Operator.Identity, Operator.Π, Operator.◌⊞◌}
 use Rattle.qc.specs.Shape.{Shape, permutations}
-use Rattle.qc.specs.Sound.{all, term_sound}
+use Rattle.qc.specs.Sound.{term_sound}
 use Rattle.qc.specs.Terms.{operator_terms}
 use Rattle.qc.specs.Segments.{term_at, segment_sum}
 use Rattle.qc.specs.Circulant.{sum, act, shift}
@@ -38,12 +39,12 @@ module _ {E : Type 0} {none : E} {plus : E → E → E} {same : E → E → Bool
   terms_turn (t ∷ ts) k x j s = ap₂ plus (shift_comm c.m (get_or (get_or (permutations c) t.permutation absent).phi j 0) k (x _) s) (terms_turn ts k x j s)
 
   -- terms of the first few groups look at no more
-  pub terms_same : (count known : ℕ) (ts : List Term) → all (term_sound count known) ts ≡ true
+  pub terms_same : (count known : ℕ) (ts : List Term) → list_all (term_sound count known) ts ≡ true
       → (x y : ℕ → ℕ → E) (j s : ℕ) → s < c.m → ((n i : ℕ) → n < 4 * count → i < c.m → x n i ≡ y n i)
       → segment_sum none plus c.m (permutations c) ts x j s ≡ segment_sum none plus c.m (permutations c) ts y j s
   terms_same count known [] ok x y j s h alike = refl
   terms_same count known (t ∷ ts) ok x y j s h alike =
-      let parts = and_parts (term_sound count known t) (all (term_sound count known) ts) ok in
+      let parts = and_parts (term_sound count known t) (list_all (term_sound count known) ts) ok in
       let low : t.group < count = ltb-true _ _ (and_parts _ _ parts.0).0 in
       ap₂ plus (alike (4 * t.group + ((get_or (permutations c) t.permutation absent).theta + j) % 4) _ (omega arith) (mod-lt _ (omega arith)))
       (terms_same count known ts parts.1 x y j s h alike)

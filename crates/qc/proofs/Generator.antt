@@ -1,12 +1,13 @@
 -- A generator table whose block passes for each message element r·m alone makes blocks that pass for every
 -- message, of every kind.
 use Rattle.std.proofs.Common.{◌≡◌, ℕ, ◌*◌, ◌<◌, Bool, true, List, length, sym, ap, ◌∙◌, ap₂}
+use Rattle.std.specs.List.{list_all}
 use lib.Bits.{bit_xor}
 use Rattle.element.specs.Laws.{Laws}
 use Rattle.qc.specs.declared.terms.Term.{Term}
 use Rattle.qc.specs.Equation.{Equation}
 use Rattle.qc.specs.Shape.{Shape, permutations}
-use Rattle.qc.specs.Sound.{all, term_sound}
+use Rattle.qc.specs.Sound.{term_sound}
 use Rattle.qc.specs.Terms.{terms, operator_terms}
 use Rattle.qc.specs.Segments.{segment_sum}
 use Rattle.qc.specs.Circulant.{sum, act, unit}
@@ -44,7 +45,7 @@ module _ {E : Type 0} {none : E} {plus : E → E → E} {same : E → E → Bool
       terms_sum laws c ts (4 * c.K) (λ r n. act none plus c.m (q r n) (u r)) j s
       ∙ sum_ext laws (4 * c.K) _ _ (λ r h. terms_act laws c ok ts (q r) (u r) j s)
 
-  message : (q : Equation) → all (term_sound c.K (length (permutations c))) (terms q) ≡ true → (j s : ℕ) → s < c.m
+  message : (q : Equation) → list_all (term_sound c.K (length (permutations c))) (terms q) ≡ true → (j s : ℕ) → s < c.m
       → of_message none plus c q u j s ≡ C (λ r. firsts c (terms q) (unit c.m r)) j s
   unfolding C
   message q good j s hs =

@@ -1,8 +1,10 @@
 -- The lowest number that fails a test, by what holds below it and at it.
-use Rattle.std.proofs.Common.{◌≡◌, ℕ, zero, suc, ◌+◌, ◌-◌, ◌<◌, ◌≤◌, Bool, true, false, cond, ◌⊎◌, Some, None, Option, sym, refl, ap, ◌∙◌, subst, inl, inr, arith, below_more}
+use Rattle.std.proofs.Common.{◌≡◌, ℕ, zero, suc, ◌+◌, ◌-◌, ◌<◌, ◌≤◌, Bool, true, false, cond, ◌⊎◌, List, length, get_or, Some, None, Option, sym, refl, ap, ◌∙◌, subst, inl, inr, arith, below_more}
 use native.Mathlib.Decide.{dec_lt}
-use Rattle.std.proofs.lemmas.Bool.{cases_Bool, and_parts}
-use Rattle.qc.specs.Segments.{every}
+use Rattle.std.specs.List.{AllWithin, HoldsAt}
+use Rattle.std.specs.Option.{MatchOption}
+use Rattle.std.proofs.lemmas.Bool.{cases_Bool}
+use Rattle.std.proofs.lemmas.Option.{none-some}
 use Rattle.qc.specs.Codeblock.{lowest, or_else}
 
 module _ (f : ℕ → Bool) where
@@ -36,21 +38,18 @@ module _ (f : ℕ → Bool) where
       go (none_fails h) (inl t) = none_fails (λ i l. below_more (λ i. f i ≡ true) n h t i (omega arith))
       go (none_fails h) (inr t) = fails_at n (omega arith) t h
 
-  differs : (k : ℕ) → ◌≡◌ {A = Option ℕ} None (Some k) → ⊥
-  differs k e = let z : ◌≡◌ {A = ℕ} 0 1 = cc in omega arith
-
   pub none_all : (n : ℕ) → lowest f n ≡ None → (i : ℕ) → i < n → f i ≡ true
   none_all n e = go (searched n)
     where
       go : Search n → (i : ℕ) → i < n → f i ≡ true
       go (none_fails h) = h
-      go (fails_at k l t h) = absurd (differs k (sym e ∙ found n k l t h))
+      go (fails_at k l t h) = absurd (none-some k (sym e ∙ found n k l t h))
 
   pub found_at : (n k : ℕ) → lowest f n ≡ Some k → (k < n) × (f k ≡ false) × ((i : ℕ) → i < k → f i ≡ true)
   found_at n k e = go (searched n)
     where
       go : Search n → (k < n) × (f k ≡ false) × ((i : ℕ) → i < k → f i ≡ true)
-      go (none_fails h) = absurd (differs k (sym (all_none n h) ∙ e))
+      go (none_fails h) = absurd (none-some k (sym (all_none n h) ∙ e))
       go (fails_at j l t h) =
           let at : j ≡ k = let e' = sym (found n j l t h) ∙ e in cc in
           subst (λ i. (i < n) × (f i ≡ false) × ((i' : ℕ) → i' < i → f i' ≡ true)) at (l, t, h)
@@ -81,8 +80,9 @@ module _ (f g : ℕ → Bool) (a b : ℕ) (passed : (i : ℕ) → i < a → f i 
               let on : a + (i - a) ≡ i = omega arith in
               ap f (sym on) ∙ sym (same (i - a) (omega (arith, at.0))) ∙ at.2 (i - a) (omega arith)
 
-pub every_all : (f : ℕ → Bool) (n : ℕ) → every f n ≡ true → (i : ℕ) → i < n → f i ≡ true
-every_all f zero e i l = absurd (omega arith)
-every_all f (suc n) e i l =
-    let both = and_parts (every f n) (f n) e in
-    below_more (λ i. f i ≡ true) n (every_all f n both.0) both.1 i (omega arith)
+-- what a search through a list answers
+pub lowest_first : {X : Type 0} (test : X → Bool) (d : X) (xs : List X) (r : Option ℕ)
+    → MatchOption r (AllWithin (λ x. test x ≡ true) xs 0 (length xs)) (λ i. (i < length xs) × HoldsAt (λ x. test x ≡ false) xs i × AllWithin (λ x. test x ≡ true) xs 0 i)
+    → r ≡ lowest (λ s. test (get_or xs s d)) (length xs)
+lowest_first test d xs None all = sym (all_none _ (length xs) (λ i h. all i d (omega arith) h))
+lowest_first test d xs (Some k) at = sym (found _ (length xs) k at.0 (at.1 d) (λ i h. at.2 i d (omega arith) h))

@@ -1,5 +1,5 @@
 -- The ones of a first row in words, and a sum over them.
-use Rattle.std.proofs.Common.{◌≡◌, ℕ, zero, suc, ◌+◌, ◌-◌, ◌*◌, ◌/◌, ◌%◌, ◌^◌, ◌<◌, ◌≤◌, Bool, List, [], ◌∷◌, ◌++◌, length, get_or, take, set, sym, refl, ap, ◌∙◌, subst, ap₂, append-nil, add-zero, mod-lt, add-one, arith, pow_pos, shr-shr}
+use Rattle.std.proofs.Common.{◌≡◌, ℕ, zero, suc, ◌+◌, ◌-◌, ◌*◌, ◌/◌, ◌%◌, ◌^◌, ◌<◌, ◌≤◌, Bool, List, [], ◌∷◌, ◌++◌, length, get_or, take, drop, set, sym, refl, ap, ◌∙◌, subst, ap₂, append-nil, add-zero, zero-add, mod-lt, add-one, arith, pow_pos, shr-shr}
 use native.Mathlib.Decide.{dec_lt}
 use lib.Pow.{high, low}
 use Rattle.std.proofs.lemmas.List.{take-set, take_more_set, length-append, get_or_append_left, get_or-append-add}
@@ -8,6 +8,7 @@ use Rattle.qc.specs.Segments.{total}
 use Rattle.qc.specs.Circulant.{sum, times, bit, number, kept, ones_of}
 use Rattle.qc.proofs.Sums.{right, total_append}
 use Rattle.qc.proofs.FirstRows.{bit_mod}
+use Rattle.qc.proofs.Reach.{get_or_part}
 
 -- a bit of a number in words is a bit of one of its words
 pub bit_number : (ws : List ℕ) (start n e : ℕ) → e < 32 * n → bit (number ws start n) e ≡ bit (get_or ws (start + (32 * n - 1 - e) / 32) 0) (e % 32)
@@ -37,6 +38,13 @@ bit_number ws start (suc n) e h = go (dec_lt e 32) (λ d l. bit_number ws start 
         let b : d % 32 ≡ e % 32 = omega arith in
         ap (bit (rest * 2 ^ 32 + word % 2 ^ 32)) p ∙ ap (λ w. w % 2) (sym (shr-shr (rest * 2 ^ 32 + word % 2 ^ 32) 32 d))
         ∙ ap (λ w. w / 2 ^ d % 2) (high rest 32 fits) ∙ less d (omega arith) ∙ ap₂ (λ i b. bit (get_or ws i 0) b) i b
+
+-- a number of words, read from a part of them
+pub number_part : (ws : List ℕ) (start k n : ℕ) → n ≤ k → number (take (start + k - start) (drop start ws)) 0 n ≡ number ws start n
+number_part ws start k zero h = refl
+number_part ws start k (suc n) h =
+    ap₂ (λ a b. a * 2 ^ 32 + b % 2 ^ 32) (number_part ws start k n (omega arith))
+    (ap (λ i. get_or (take (start + k - start) (drop start ws)) i 0) (zero-add n) ∙ get_or_part start k ws n 0 (omega arith))
 
 -- one bit more
 ones_more : (bits : ℕ → ℕ) (e b : ℕ) → bits e ≡ b → ones_of bits (e + 1) ≡ ones_of bits e ++ kept b (e + 1)

@@ -9,7 +9,6 @@ use Rattle.qc.specs.Terms.{terms}
 use Rattle.qc.specs.Segments.{segments, segment_sum, Written}
 use Rattle.qc.specs.Circulant.{sum, act}
 use Rattle.qc.specs.Coding.{first_row}
-use Rattle.qc.specs.Product.{product_at}
 use Rattle.qc.proofs.Verdicts.{View, given, viewed, view_is}
 
 -- in ys the segments t to t + k - 1 are f's, and all else is as in xs
@@ -51,13 +50,14 @@ pub record Factors : Type 0 where
 abbrev pub factors : ℕ → List ℕ → ℕ → ℕ → Factors
 factors m ws s t = record { m = m; words = ws; source = s; target = t }
 
--- a product of four segments with the inverse table
+-- place s of target n of a product with four sources and four targets
+abbrev pub multiplied : {E : Type 0} → E → (E → E → E) → Factors → (ℕ → ℕ → E) → ℕ → ℕ → E
+multiplied none plus f x n s = sum none plus 4 (λ l. act none plus f.m (first_row f.m f.words (4 * l + n)) (x (f.source + l)) s)
+
 abbrev pub Multiplied : {E : Type 0} → E → (E → E → E) → List E → List E → Factors → Type 0
 Multiplied none plus xs ys f =
-    Written none (λ p. product_at none plus f.m f.words (record { source = f.source; sources = 4; target = f.target; targets = 4 }) (segments none f.m xs) ((p - f.target * f.m) / f.m) ((p - f.target * f.m) % f.m))
-    (f.target * f.m) xs ys (f.target * f.m + 4 * f.m)
+    Written none (λ p. multiplied none plus f (segments none f.m xs) ((p - f.target * f.m) / f.m) ((p - f.target * f.m) % f.m)) (f.target * f.m) xs ys (f.target * f.m + 4 * f.m)
 
 pub product_written : {E : Type 0} (none : E) (plus : E → E → E) (f : Factors) (xs ys : List E) → Multiplied none plus xs ys f
-    → SegmentsWritten none f.m (λ n s. sum none plus 4 (λ l. act none plus f.m (first_row f.m f.words (4 * l + n)) (segments none f.m xs (f.source + l)) s)) f.target xs ys 4
-product_written none plus f xs ys w =
-    by_segments none f.m (product_at none plus f.m f.words (record { source = f.source; sources = 4; target = f.target; targets = 4 }) (segments none f.m xs)) f.target 4 xs ys _ _ refl (sym (add-mul f.target 4 f.m)) w
+    → SegmentsWritten none f.m (multiplied none plus f (segments none f.m xs)) f.target xs ys 4
+product_written none plus f xs ys w = by_segments none f.m (multiplied none plus f (segments none f.m xs)) f.target 4 xs ys _ _ refl (sym (add-mul f.target 4 f.m)) w

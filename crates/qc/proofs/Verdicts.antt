@@ -1,6 +1,8 @@
 -- A block passes exactly when it is a codeblock, and which row is the lowest that fails.
 use Rattle.std.proofs.Common.{◌≡◌, ℕ, zero, suc, ◌+◌, ◌-◌, ◌*◌, ◌/◌, ◌%◌, ◌<◌, ◌≤◌, Bool, true, cond, ◌↔◌, List, [], length, Some, None, Option, sym, refl, ap, ◌∙◌, subst, ap₂, mod-lt, zero-add, zero-mul, arith}
 use native.Mathlib.Decide.{dec_lt}
+use Rattle.std.specs.List.{list_all}
+use Rattle.std.specs.Option.{option_map}
 use Rattle.std.proofs.lemmas.Bool.{lt-ltb, le-ltb}
 use Rattle.std.proofs.lemmas.Nat.{div-mul-add, mod-mul-add, div_below, div-add-mod'}
 use Rattle.element.specs.Laws.{Laws}
@@ -11,7 +13,7 @@ use Rattle.qc.specs.Shape.{Shape, M, sent, whole, first, second, known, permutat
 use Rattle.qc.specs.Codeblock.{block_row, row, AllZero, completed_by, Codeblock, groups, punctured, completed, lowest}
 use Rattle.qc.specs.Check.{lowest_row}
 use Rattle.qc.specs.Terms.{terms}
-use Rattle.qc.specs.Sound.{all, term_sound}
+use Rattle.qc.specs.Sound.{term_sound}
 use Rattle.qc.specs.Segments.{segments, segment_sum, AllReadable, Written}
 use Rattle.qc.proofs.Sums.{equal}
 use Rattle.qc.proofs.Lowest.{all_none, found, none_all, Search, Search.none_fails, Search.fails_at, searched, stretch_none, stretch_found}
@@ -168,15 +170,21 @@ module _ {E : Type 0} {none : E} {plus : E → E → E} {same : E → E → Bool
     second_seen : (i : ℕ) → i < M c → same (viewed none plus (view c (second c) xs) i) none ≡ row_test (M c + i)
     second_seen i h = let at : 1 * M c + i ≡ M c + i = omega arith in seen 1 i h ∙ ap row_test at
 
-    pub second_found : (r : ℕ) → lowest_viewed none plus same (view c (first c) xs) ≡ None → lowest_viewed none plus same (view c (second c) xs) ≡ Some r
+    second_found : (r : ℕ) → lowest_viewed none plus same (view c (first c) xs) ≡ None → lowest_viewed none plus same (view c (second c) xs) ≡ Some r
         → lowest (λ r. same (row none plus c (groups none (M c) xs) r) none) (2 * M c) ≡ Some (M c + r)
     unfolding row_test
     second_found r e₁ e₂ = stretch_found row_test _ (M c) (M c) (first_passed e₁) second_seen (2 * M c) r (omega arith) e₂
 
-    pub none_found : lowest_viewed none plus same (view c (first c) xs) ≡ None → lowest_viewed none plus same (view c (second c) xs) ≡ None
+    none_found : lowest_viewed none plus same (view c (first c) xs) ≡ None → lowest_viewed none plus same (view c (second c) xs) ≡ None
         → lowest (λ r. same (row none plus c (groups none (M c) xs) r) none) (2 * M c) ≡ None
     unfolding row_test
     none_found e₁ e₂ = all_none row_test (2 * M c) (λ r h. stretch_none row_test _ (M c) (M c) (first_passed e₁) second_seen e₂ r (omega arith))
+
+    -- where the first block row passes, the second says which row is the lowest
+    pub second_rows : (o : Option ℕ) → lowest_viewed none plus same (view c (first c) xs) ≡ None → o ≡ lowest_viewed none plus same (view c (second c) xs)
+        → option_map (λ r. M c + r) o ≡ lowest (λ r. same (row none plus c (groups none (M c) xs) r) none) (2 * M c)
+    second_rows None e₁ e₂ = sym (none_found e₁ (sym e₂))
+    second_rows (Some r) e₁ e₂ = sym (second_found r e₁ (sym e₂))
 
   -- the third block row of a completed block never fails
   pub lowest_of_two : (xs : List E) → whole c ≤ length xs
@@ -197,7 +205,7 @@ module _ {E : Type 0} {none : E} {plus : E → E → E} {same : E → E → Bool
       go (fails_at k l e all) = found test (2 * M c) k l e all ∙ sym (found test (3 * M c) k (omega arith) e all)
 
 -- terms that can be read, by what a loop is given
-pub readable_given : (c : Shape) → Sound c → (q : Equation) (count len : ℕ) → count * (4 * c.m) ≤ len → all (term_sound count (length (permutations c))) (terms q) ≡ true
+pub readable_given : (c : Shape) → Sound c → (q : Equation) (count len : ℕ) → count * (4 * c.m) ≤ len → list_all (term_sound count (length (permutations c))) (terms q) ≡ true
     → (m : ℕ) (table : List Permutation) (ts : List Term) → m ≡ c.m → table ≡ permutations c → ts ≡ terms q → AllReadable m len table ts
 readable_given c ok q count len fits good m table ts em et es =
     subst (λ (v : View ℕ). AllReadable v.m len v.table v.ts) (sym (view_is c q m table ts [] em et es)) (readable c ok count len fits (terms q) good)

@@ -1,17 +1,10 @@
 -- What a check answers and leaves, for a run of any length.
-use Rattle.std.specs.Prelude.{ℕ, ◌*◌, Bool, cond, List, length, Some, None, Option, nat_lt}
+use Rattle.std.specs.Prelude.{ℕ, ◌*◌, Bool, cond, List, length, Option, nat_lt}
 use Rattle.refusal.specs.Outcome.{Outcome, Outcome.done, Outcome.refused}
-use Rattle.qc.specs.declared.answers.RunFault.TheVariants.{TooShort}
-use Rattle.qc.specs.declared.answers.Verdict.{Verdict}
-use Rattle.qc.specs.declared.answers.Verdict.TheVariants.{Passes, Fails}
+use Rattle.qc.specs.declared.faults.RunFault.TheVariants.{TooShort}
 use Rattle.qc.specs.Refusals.{run_fault}
 use Rattle.qc.specs.Shape.{Shape, M, whole}
 use Rattle.qc.specs.Codeblock.{row, lowest, groups, completed}
-
--- the verdict by the lowest row that is not zero, if there is one
-abbrev pub verdict : Option ℕ → Verdict
-verdict None = Passes
-verdict (Some r) = Fails r
 
 module _ {E : Type 0} (none : E) (plus : E → E → E) (c : Shape) where
   -- the run after a check: refused, it is as it was
@@ -22,6 +15,7 @@ module _ {E : Type 0} (none : E) (plus : E → E → E) (c : Shape) where
   abbrev pub lowest_row : (E → E → Bool) → List E → Option ℕ
   lowest_row same xs = lowest (λ r. same (row none plus c (groups none (M c) xs) r) none) (3 * M c)
 
-  abbrev pub check_answer : (E → E → Bool) → List E → Outcome Verdict
+  -- it passes where no row is named
+  abbrev pub check_answer : (E → E → Bool) → List E → Outcome (Option ℕ)
   check_answer same xs =
-      cond (nat_lt (length xs) (whole c)) (refused (run_fault TooShort)) (done (verdict (lowest_row same (completed none plus c xs))))
+      cond (nat_lt (length xs) (whole c)) (refused (run_fault TooShort)) (done (lowest_row same (completed none plus c xs)))

@@ -2,7 +2,7 @@
 use Rattle.std.specs.Prelude.{◌≡◌, ℕ, ◌+◌, ◌*◌, ◌/◌, ◌%◌, ◌<◌, ◌≤◌, cond, List, ◌++◌, map, length, take, drop, nat_lt, slice_index_or}
 use Rattle.std.specs.List.{range_with_len}
 use Rattle.refusal.specs.Outcome.{Outcome, Outcome.done, Outcome.refused}
-use Rattle.qc.specs.declared.answers.RunFault.TheVariants.{TooShort}
+use Rattle.qc.specs.declared.faults.RunFault.TheVariants.{TooShort}
 use Rattle.qc.specs.Refusals.{run_fault}
 use Rattle.qc.specs.Equation.{Operator}
 use Rattle.qc.specs.Shape.{Shape, M, sent, whole, permutations}

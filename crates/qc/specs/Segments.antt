@@ -1,18 +1,14 @@
 -- The loops' view of a block equation: segment by segment, as a sum over terms.
-use Rattle.std.specs.Prelude.{◌≡◌, ℕ, zero, suc, ◌+◌, ◌*◌, ◌%◌, ◌<◌, ◌≤◌, Bool, true, ◌&&◌, ◌⊎◌, List, [], ◌∷◌, length, get_or, slice_index, slice_index_or}
+use Rattle.std.specs.Prelude.{◌≡◌, ℕ, ◌+◌, ◌*◌, ◌%◌, ◌<◌, ◌≤◌, ◌⊎◌, List, [], ◌∷◌, length, get_or, slice_index, slice_index_or}
 use Rattle.qc.specs.declared.terms.Permutation.{Permutation}
 use Rattle.qc.specs.declared.terms.Term.{Term}
+use Rattle.qc.specs.declared.kernel.Summands.{Summands}
 use Rattle.qc.specs.Permutation.{absent}
 
 -- what f gives for each of xs, added up
 abbrev pub total : {E X : Type 0} → E → (E → E → E) → (X → E) → List X → E
 total none plus f [] = none
 total none plus f (x ∷ xs) = plus (f x) (total none plus f xs)
-
--- whether each number below n passes the test
-abbrev pub every : (ℕ → Bool) → ℕ → Bool
-every passes zero = true
-every passes (suc n) = every passes n && passes n
 
 -- place s of segment n of a list, in segments of m elements
 abbrev pub segments : {E : Type 0} → E → ℕ → List E → ℕ → ℕ → E
@@ -27,6 +23,10 @@ term_at m table x j s t =
 -- place s of segment j of a sum of terms
 abbrev pub segment_sum : {E : Type 0} → E → (E → E → E) → ℕ → List Permutation → List Term → (ℕ → ℕ → E) → ℕ → ℕ → E
 segment_sum none plus m table ts x j s = total none plus (term_at m table x j s) ts
+
+-- the same of what a loop is given, in a list whose segments have m elements
+abbrev pub summed : {E : Type 0} → E → (E → E → E) → ℕ → Summands → List E → ℕ → ℕ → E
+summed none plus m given xs j s = segment_sum none plus m given.table.now given.terms.now (segments none m xs) j s
 
 -- a term that can be read: its permutation is in the table and its group within the list
 pub record Readable (m len : ℕ) (table : List Permutation) (t : Term) : Type 0 where

@@ -4,9 +4,8 @@ ghost use Rattle.qc.specs.Terms.{terms};
 ghost use Rattle.qc.specs.Codeblock.{block_row};
 ghost use Rattle.qc.specs.SegmentRows.{rows_there, segment_rows};
 
-use crate::kernel::sum_segment;
+use crate::kernel::Summands;
 use crate::matrix::QuasiCyclic;
-use crate::syndrome::whole_len;
 use crate::terms::Term;
 use element::Element;
 
@@ -14,7 +13,7 @@ use element::Element;
 fn has_rows<C: QuasiCyclic>(code: C, len: usize, n: usize, room: usize) -> bool
     ensures { result ≡ rows_there (C.shape code) len n room }
 {
-    whole_len(code) <= len && room == code.segment() && n < 8
+    code.whole_len() <= len && room == code.segment() && n < 8
 }
 
 // The terms of the block row that has segment n.
@@ -32,7 +31,7 @@ fn row_terms<C: QuasiCyclic>(code: C, n: usize) -> &'static [Term]
 // Writes rows n·m to n·m + m - 1 of the whole block at the front of `run` into `rows`, which is one segment
 // of m elements; n is 0 to 7, since the third block row is what the punctured group is worked out from.
 // Answers false, and writes nothing, where `run` is shorter than a whole block, `rows` is not one segment or
-// n is not below 8.
+// n is not below 8. No rule gives this refusal a number, so the answer is a bool.
 pub fn rows_of_segment<C: QuasiCyclic, E: Element>(
     code: C,
     run: &[E],
@@ -45,6 +44,10 @@ pub fn rows_of_segment<C: QuasiCyclic, E: Element>(
     if !has_rows(code, run.len(), n, rows.len()) {
         return false;
     }
-    sum_segment(rows, run, code.table(), row_terms(code, n), n % 4);
+    let block_row = Summands {
+        table: code.table(),
+        terms: row_terms(code, n),
+    };
+    block_row.sum_segment(rows, run, n % 4);
     true
 }

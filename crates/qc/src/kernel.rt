@@ -1,6 +1,7 @@
 // The inner loops, over whole segments.
 ghost use Rattle.std.specs.Prelude.{◌≡◌, ℕ, ◌+◌, ◌-◌, ◌*◌, ◌/◌, ◌%◌, ◌<◌, ◌≤◌, length, slice_index_or};
-ghost use Rattle.qc.specs.Segments.{every, segments, term_at, segment_sum, Readable, AllReadable, AllApart, Written};
+ghost use Rattle.std.specs.List.{list_all};
+ghost use Rattle.qc.specs.Segments.{segments, term_at, summed, Readable, AllReadable, AllApart, Written};
 ghost use Rattle.qc.specs.Codeblock.{lowest};
 
 use crate::terms::{Permutation, Term};
@@ -10,8 +11,18 @@ use element::Element;
 pub(crate) fn clear<E: Element>(sums: &mut [E])
     ensures { (s : ℕ) → s < length sums.old → slice_index_or sums.new s E.zero ≡ E.zero }
 {
-    for i in 0..sums.len() {
-        sums[i] = E::zero();
+    for sum in sums.iter_mut() {
+        *sum = E::zero();
+    }
+}
+
+// Adds `more` to `sums`, place by place.
+pub(crate) fn add_each<E: Element>(sums: &mut [E], more: &[E])
+    requires { length sums.old ≡ length more.now }
+    ensures { (s : ℕ) → s < length sums.old → slice_index_or sums.new s E.zero ≡ E.plus (slice_index_or sums.old s E.zero) (slice_index_or more.now s E.zero) }
+{
+    for (i, sum) in sums.iter_mut().enumerate() {
+        *sum = sum.plus(more[i]);
     }
 }
 
@@ -21,14 +32,9 @@ fn add_rotated<E: Element>(sums: &mut [E], segment: &[E], shift: usize)
     requires within { shift < length segment.now }
     ensures { (s : ℕ) → s < length sums.old → slice_index_or sums.new s E.zero ≡ E.plus (slice_index_or sums.old s E.zero) (slice_index_or segment.now ((s + shift) % length segment.now) E.zero) }
 {
-    let m = segment.len();
-    let cut = m - shift;
-    for i in 0..cut {
-        sums[i] = sums[i].plus(segment[shift + i]);
-    }
-    for i in cut..m {
-        sums[i] = sums[i].plus(segment[i - cut]);
-    }
+    let cut = segment.len() - shift;
+    add_each(&mut sums[..cut], &segment[shift..]);
+    add_each(&mut sums[cut..], &segment[..shift]);
 }
 
 // Adds segment j of one term. The permutation is looked up here, once for the whole segment.
@@ -43,34 +49,12 @@ fn add_term<E: Element>(sums: &mut [E], run: &[E], table: &[Permutation], t: Ter
     add_rotated(sums, &run[from..from + m], p.phi[j]);
 }
 
-// Segment j of a sum of terms.
-pub(crate) fn sum_segment<E: Element>(
-    sums: &mut [E],
-    run: &[E],
-    table: &[Permutation],
-    terms: &[Term],
-    j: usize,
-)
-    requires readable { AllReadable (length sums.old) (length run.now) table.now terms.now }
-    requires quarter { j < 4 }
-    ensures { (s : ℕ) → s < length sums.old → slice_index_or sums.new s E.zero ≡ segment_sum E.zero E.plus (length sums.old) table.now terms.now (segments E.zero (length sums.old) run.now) j s }
-{
-    clear(sums);
-    for t in terms {
-        add_term(sums, run, table, *t, j);
-    }
-}
-
-// Whether each place is zero. The loop does not stop early, so that it runs over whole vectors.
+// Whether each place is zero. `all` would stop early, and so not run over whole vectors.
 fn all_zero<E: Element>(sums: &[E]) -> bool
-    ensures { result ≡ every (λ s. E.same (slice_index_or sums.now s E.zero) E.zero) (length sums.now) }
+    ensures { result ≡ list_all (λ x. E.same x E.zero) sums.now }
 {
     let zero = E::zero();
-    let mut clean = true;
-    for i in 0..sums.len() {
-        clean = clean & sums[i].same(zero);
-    }
-    clean
+    sums.iter().fold(true, |clean, sum| clean & (*sum == zero))
 }
 
 // The lowest place that is not zero.
@@ -81,33 +65,7 @@ fn lowest_nonzero<E: Element>(sums: &[E]) -> Option<usize>
         return None;
     }
     let zero = E::zero();
-    for i in 0..sums.len() {
-        if !sums[i].same(zero) {
-            return Some(i);
-        }
-    }
-    None
-}
-
-// The lowest place of a sum of terms that is not zero, in a group of four segments.
-pub(crate) fn lowest_row<E: Element>(
-    sums: &mut [E],
-    run: &[E],
-    table: &[Permutation],
-    terms: &[Term],
-) -> Option<usize>
-    requires short { length sums.old ≤ 512 }
-    requires readable { AllReadable (length sums.old) (length run.now) table.now terms.now }
-    ensures { result ≡ lowest (λ i. E.same (segment_sum E.zero E.plus (length sums.old) table.now terms.now (segments E.zero (length sums.old) run.now) (i / length sums.old) (i % length sums.old)) E.zero) (4 * length sums.old) }
-{
-    let m = sums.len();
-    for j in 0..4 {
-        sum_segment(sums, run, table, terms, j);
-        if let Some(s) = lowest_nonzero(sums) {
-            return Some(j * m + s);
-        }
-    }
-    None
+    sums.iter().position(|sum| *sum != zero)
 }
 
 // Writes `sums` over the places of `run` from `from` on.
@@ -120,23 +78,55 @@ pub(crate) fn write_segment<E: Element>(run: &mut [E], from: usize, sums: &[E])
     run[from..from + sums.len()].copy_from_slice(sums);
 }
 
-// Writes the four segments of a sum of terms to the group that begins at `from`; the terms are of other groups.
-pub(crate) fn write_group<E: Element>(
-    run: &mut [E],
-    sums: &mut [E],
-    table: &[Permutation],
-    terms: &[Term],
-    from: usize,
-)
-    requires short { length sums.old ≤ 512 }
-    requires readable { AllReadable (length sums.old) (length run.old) table.now terms.now }
-    requires apart { AllApart (length sums.old) from terms.now }
-    requires there { from + 4 * length sums.old ≤ length run.old }
-    ensures { Written E.zero (λ p. segment_sum E.zero E.plus (length sums.old) table.now terms.now (segments E.zero (length sums.old) run.old) ((p - from) / length sums.old) ((p - from) % length sums.old)) from run.old run.new (from + 4 * length sums.old) }
-{
-    let m = sums.len();
-    for j in 0..4 {
-        sum_segment(sums, run, table, terms, j);
-        write_segment(run, from + j * m, sums);
+// A sum of terms, with the table of their permutations. That the terms can be read is asked at each call,
+// since it speaks of the lengths of the caller's buffers too.
+#[derive(Clone, Copy)]
+pub(crate) struct Summands<'a> {
+    pub(crate) table: &'a [Permutation],
+    pub(crate) terms: &'a [Term],
+}
+
+impl Summands<'_> {
+    // Segment j of the sum.
+    pub(crate) fn sum_segment<E: Element>(self, sums: &mut [E], run: &[E], j: usize)
+        requires readable { AllReadable (length sums.old) (length run.now) self.table.now self.terms.now }
+        requires quarter { j < 4 }
+        ensures { (s : ℕ) → s < length sums.old → slice_index_or sums.new s E.zero ≡ summed E.zero E.plus (length sums.old) self.entry run.now j s }
+    {
+        clear(sums);
+        for t in self.terms {
+            add_term(sums, run, self.table, *t, j);
+        }
+    }
+
+    // The lowest place of the sum that is not zero, in a group of four segments.
+    pub(crate) fn lowest_row<E: Element>(self, sums: &mut [E], run: &[E]) -> Option<usize>
+        requires short { length sums.old ≤ 512 }
+        requires readable { AllReadable (length sums.old) (length run.now) self.table.now self.terms.now }
+        ensures { result ≡ lowest (λ i. E.same (summed E.zero E.plus (length sums.old) self.entry run.now (i / length sums.old) (i % length sums.old)) E.zero) (4 * length sums.old) }
+    {
+        let m = sums.len();
+        for j in 0..4 {
+            self.sum_segment(sums, run, j);
+            if let Some(s) = lowest_nonzero(sums) {
+                return Some(j * m + s);
+            }
+        }
+        None
+    }
+
+    // Writes the four segments of the sum to the group that begins at `from`; its terms are of other groups.
+    pub(crate) fn write_group<E: Element>(self, run: &mut [E], sums: &mut [E], from: usize)
+        requires short { length sums.old ≤ 512 }
+        requires readable { AllReadable (length sums.old) (length run.old) self.table.now self.terms.now }
+        requires apart { AllApart (length sums.old) from self.terms.now }
+        requires there { from + 4 * length sums.old ≤ length run.old }
+        ensures { Written E.zero (λ p. summed E.zero E.plus (length sums.old) self.entry run.old ((p - from) / length sums.old) ((p - from) % length sums.old)) from run.old run.new (from + 4 * length sums.old) }
+    {
+        let m = sums.len();
+        for j in 0..4 {
+            self.sum_segment(sums, run, j);
+            write_segment(run, from + j * m, sums);
+        }
     }
 }

@@ -3,18 +3,18 @@
 
 #![tactic(auto)]
 
-mod answers;
 mod check_rows;
 mod circulant;
 mod coders;
+mod faults;
 mod kernel;
 mod matrix;
 mod syndrome;
 mod terms;
 
-pub use answers::{RunFault, Verdict};
 pub use check_rows::rows_of_segment;
 pub use coders::{CheckCoder, Coder, TableCoder};
+pub use faults::RunFault;
 pub use matrix::QuasiCyclic;
-pub use syndrome::check;
+pub use syndrome::{LONGEST_SEGMENT, check};
 pub use terms::{Permutation, Term};

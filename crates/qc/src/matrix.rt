@@ -1,6 +1,6 @@
 // A quasi-cyclic code, by its shape and by the lists that the loops run over.
 ghost use Rattle.std.specs.Prelude.{◌≡◌, true};
-ghost use Rattle.qc.specs.Shape.{Shape, first, second, known, asked, closing, permutations};
+ghost use Rattle.qc.specs.Shape.{Shape, M, sent, whole, first, second, known, asked, closing, permutations};
 ghost use Rattle.qc.specs.Terms.{terms};
 ghost use Rattle.qc.specs.Sound.{sound};
 ghost use Rattle.qc.specs.Coding.{Tables};
@@ -52,4 +52,25 @@ pub trait QuasiCyclic: Copy {
 
     fn inverse(self) -> &'static [u32]
         ensures { result.now ≡ (tables self).inverse };
+
+    // How many elements a group has.
+    fn group_len(self) -> usize
+        ensures { result ≡ M (shape self) }
+    {
+        4 * self.segment()
+    }
+
+    // How many elements of a block are sent.
+    fn block_len(self) -> usize
+        ensures { result ≡ sent (shape self) }
+    {
+        (self.message_groups() + 2) * self.group_len()
+    }
+
+    // How many elements a whole block has, its punctured group included.
+    fn whole_len(self) -> usize
+        ensures { result ≡ whole (shape self) }
+    {
+        (self.message_groups() + 3) * self.group_len()
+    }
 }

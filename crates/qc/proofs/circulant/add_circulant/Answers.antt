@@ -1,37 +1,33 @@
-use Rattle.std.proofs.Common.{◌≡◌, ◌+◌, ◌-◌, ◌/◌, ◌%◌, length, get_or, take, ap, ◌∙◌, arith}
+use Rattle.std.proofs.Common.{◌≡◌, ℕ, ◌+◌, ◌%◌, length, get_or, ap, ◌∙◌, arith}
 use Rattle.qc.specs.Segments.{total}
-use Rattle.qc.specs.Circulant.{times, bit, number}
+use Rattle.qc.specs.Circulant.{sum, times, bit, number}
 use Rattle.qc.proofs.Sums.{sum_ext}
 use Rattle.qc.proofs.Ones.{ones_most, ones_total}
 use Rattle.qc.proofs.circulant.add_circulant.Goals as goal
 
-pub add_shifted-requires : goal.add_shifted-requires
-add_shifted-requires g c =
-    let m = length c.args.segment.now in
-    let bits = bit (number c.args.words.now c.args.start (m / 32)) in
-    let all : c.list_ones-n.result - 0 ≡ c.list_ones-n.result = omega arith in
-    let is = ap (λ n. take n c.list_ones-n.new.places) all ∙ c.list_ones-n.ensures.listed in
-    record {
-      sixteens = omega (arith, c.requires.lengths.0, c.requires.words.1.0);
-      there = λ k h.
-          let low = ones_most bits m k (omega (arith, h, ap length is)) in
-          omega (arith, low, ap (λ l. get_or l k 0) is, c.write_twice.auto.wide, c.requires.lengths.0, c.requires.lengths.1.0);
-    }
+pub add_shifted-requires-clause-there : goal.add_shifted-requires-clause-there
+add_shifted-requires-clause-there g c = λ k h.
+    let room = c.args.scratch.now in
+    let row = c.args.first_row.now in
+    let listed = c.list_ones-n.ensures.listed in
+    let low = ones_most (bit (number row 0 (length row))) (length room.places.now) k (omega (arith, h, ap length listed)) in
+    omega (arith, low, ap (λ l. get_or l k 0) listed, c.write_twice.auto.wide, room.twice, room.listed)
 
-pub returns : goal.returns
-returns g c = λ s h.
+pub returns-clause-added : goal.returns-clause-added
+returns-clause-added g c = λ s h.
     let e = g.E.Element in
     let segment = c.args.segment.now in
     let m = length segment in
-    let wide = c.write_twice.new.wide in
-    let bits = bit (number c.args.words.now c.args.start (m / 32)) in
-    let all : c.list_ones-n.result - 0 ≡ c.list_ones-n.result = omega arith in
-    let is = ap (λ n. take n c.list_ones-n.new.places) all ∙ c.list_ones-n.ensures.listed in
+    let row = c.args.first_row.now in
+    let bits = bit (number row 0 (length row)) in
+    let read : ℕ → g.row.E.Denot = λ k. get_or c.write_twice.new.wide (k + s) e.zero in
+    let all : length c.args.scratch.now.places.now ≡ m = c.args.scratch.now.listed ∙ c.requires.0 in
     c.add_shifted.ensures s h
-    ∙ ap (e.plus (get_or c.args.sums.now s e.zero))
-    (ap (total e.zero e.plus (λ k. get_or wide (k + s) e.zero)) is
-    ∙ ones_total e.laws (λ k. get_or wide (k + s) e.zero) bits m
+    ∙ ap (e.plus (get_or c.args.scratch.now.sums.now s e.zero))
+    (ap (total e.zero e.plus read) c.list_ones-n.ensures.listed
+    ∙ ones_total e.laws read bits (length c.args.scratch.now.places.now)
+    ∙ ap (λ n. sum e.zero e.plus n (λ i. times e.zero (bits i) (read (i + 1)))) all
     ∙ sum_ext e.laws m _ _ (λ i l.
     ap (times e.zero (bits i))
-    (c.write_twice.ensures (i + 1 + s) (omega (arith, c.requires.lengths.0))
+    (c.write_twice.ensures (i + 1 + s) (omega (arith, c.requires.0, l, h))
     ∙ (let on : i + 1 + s ≡ s + (1 + i) = omega arith in ap (λ p. get_or segment (p % m) e.zero) on))))

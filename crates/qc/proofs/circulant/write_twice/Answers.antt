@@ -1,32 +1,31 @@
-use Rattle.std.proofs.Common.{◌≡◌, ℕ, ◌+◌, ◌-◌, ◌%◌, ◌<◌, ◌≤◌, length, get_or, sym, ap, ◌∙◌, mod-eq_of_lt, arith}
+use Rattle.std.proofs.Common.{◌≡◌, ℕ, ◌+◌, ◌-◌, ◌%◌, ◌<◌, ◌≤◌, List, ◌++◌, length, get_or, drop, sym, refl, ap, ◌∙◌, mod-eq_of_lt, arith}
 use native.Mathlib.Decide.{dec_lt}
-use Rattle.std.proofs.lemmas.List.{get_or_read}
-use Rattle.qc.proofs.Written.{written_more, once_more}
+use borrow.Rule.Slice.PartMut.{put_mid}
+use Rattle.std.proofs.lemmas.List.{get_or_append_left, length-append, length-drop}
+use Rattle.qc.proofs.Written.{once_more}
+use Rattle.qc.proofs.Reach.{mid_before, mid_made}
 use Rattle.qc.proofs.circulant.write_twice.Goals as goal
 
-pub loop-i-preserved : goal.loop-i-preserved
-loop-i-preserved g c =
-    let e = g.E.Element in
-    let segment = c.args.segment.now in
-    let here : c.loop-i.i < length c.loop-i.wide = omega (arith, c.loop-i.auto.wide, c.requires, c.loop-i-test.true) in
-    written_more c.loop-i.wide c.loop-i.i _ c.loop-i.invariant (omega arith) here
-    (get_or_read segment _ _ c.loop-i-test.true c.index-segment-i.is e.zero ∙ ap (λ p. get_or segment p e.zero) (sym (mod-eq_of_lt c.loop-i-test.true)))
-
-pub loop-i-2-preserved : goal.loop-i-2-preserved
-loop-i-2-preserved g c =
-    let e = g.E.Element in
-    let segment = c.args.segment.now in
-    let i = c.loop-i-2.i in
-    let low : length segment ≤ i = omega (arith, c.loop-i-2.auto.i) in
-    let within : i - length segment < length segment = omega (arith, c.loop-i-2-test.true) in
-    let here : i < length c.loop-i-2.wide = omega (arith, c.loop-i-2.auto.wide, c.loop-i.auto.wide, c.requires, c.loop-i-2-test.true) in
-    written_more c.loop-i-2.wide i _ c.loop-i-2.invariant low here
-    (get_or_read segment _ _ within c.index-segment-i-in-loop-i-2.is e.zero ∙ ap (λ p. get_or segment p e.zero) (once_more (length segment) i low (omega (arith, c.loop-i-2-test.true))))
+-- xs over the front half of ys, and then over the back half
+twice : {X : Type 0} (xs ys held front back : List X) (d : X) → held ≡ front ++ drop (length xs) ys → front ≡ xs → back ≡ xs → length ys ≡ length xs + length xs
+    → (i : ℕ) → i < length xs + length xs → Dec (i < length xs) → get_or (put_mid (length xs) (length held - length xs) held back) i d ≡ get_or xs (i % length xs) d
+twice xs ys held front back d is first second long i h dec =
+    let m = length xs in
+    let whole : length held ≡ m + m = ap length is ∙ length-append front _ ∙ omega (arith, ap length first, length-drop m ys, long) in
+    let fits : m + (length held - m) ≤ length held = omega (arith, whole) in
+    let half : length back ≡ length held - m = omega (arith, ap length second, whole) in
+    go dec fits half (omega (arith, whole, h))
+  where
+    go : Dec (i < length xs) → length xs + (length held - length xs) ≤ length held → length back ≡ length held - length xs → i - length xs < length held - length xs
+        → get_or (put_mid (length xs) (length held - length xs) held back) i d ≡ get_or xs (i % length xs) d
+    go (yes low) fits half within =
+        mid_before (length xs) _ held back fits half i d low ∙ ap (λ l. get_or l i d) is ∙ get_or_append_left front _ d i (omega (arith, ap length first, low))
+        ∙ ap (λ l. get_or l i d) first ∙ ap (λ p. get_or xs p d) (sym (mod-eq_of_lt low))
+    go (no high) fits half within =
+        let at : length xs + (i - length xs) ≡ i = omega (arith, high) in
+        ap (λ p. get_or (put_mid (length xs) (length held - length xs) held back) p d) (sym at)
+        ∙ mid_made (length xs) _ held back fits half (i - length xs) d within
+        ∙ ap (λ l. get_or l (i - length xs) d) second ∙ ap (λ p. get_or xs p d) (once_more (length xs) i (omega (arith, high)) h)
 
 pub returns : goal.returns
-returns g c = λ i h. go i h (dec_lt i (length c.args.segment.now))
-  where
-    go : (i : ℕ) → i < length c.args.segment.now + length c.args.segment.now → Dec (i < length c.args.segment.now)
-        → get_or c.loop-i-2.wide i g.E.Element.zero ≡ get_or c.args.segment.now (i % length c.args.segment.now) g.E.Element.zero
-    go i h (yes low) = c.loop-i-2.invariant.before i low ∙ c.loop-i.invariant.made i (omega (arith, c.loop-i-test.false)) (omega arith)
-    go i h (no high) = c.loop-i-2.invariant.made i (omega (arith, c.loop-i-2-test.false)) (omega arith)
+returns g c = λ i h. twice c.args.segment.now c.args.wide.now _ _ _ g.E.Element.zero refl c.copy_from_slice.ensures.after c.copy_from_slice-2.ensures.after c.requires i h (dec_lt i (length c.args.segment.now))

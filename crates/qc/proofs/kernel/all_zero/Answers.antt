@@ -1,18 +1,19 @@
-use Rattle.std.proofs.Common.{◌≡◌, ℕ, ◌&&◌, length, get_or, sym, ap, ◌∙◌, ap₂, add-one, arith}
-use Rattle.std.proofs.lemmas.List.{get_or_read}
-use Rattle.qc.specs.Segments.{every}
+use Rattle.std.proofs.Common.{◌≡◌, Bool, true, false, ◌&&◌, List, [], ◌∷◌, refl, ◌∙◌, rules}
+use Rattle.std.specs.List.{fold, list_all}
+use Rattle.std.proofs.lemmas.Iterator.{YieldsList-from_slice}
+use Rattle.std.proofs.lemmas.Iterator.Consumers.{fold_from_yields_List}
 use Rattle.qc.proofs.kernel.all_zero.Goals as goal
 
-pub loop-i-preserved : goal.loop-i-preserved
-loop-i-preserved g c =
-    let e = g.E.Element in
-    let sums = c.args.sums.now in
-    let test = λ (s : ℕ). e.same (get_or sums s e.zero) e.zero in
-    let here = get_or_read sums _ _ c.loop-i-test.true c.index-sums-i.is e.zero in
-    ap₂ ◌&&◌ c.loop-i.invariant (c.same-clean.ensures ∙ ap₂ e.same here c.zero-zero.ensures) ∙ sym (ap (every test) (add-one c.loop-i.i))
+-- a fold that goes on past an element that fails
+fold_all : {X : Type 0} (test : X → Bool) (b : Bool) (xs : List X) → fold (λ a x. a && test x) b xs ≡ (b && list_all test xs)
+fold_all test true [] = refl
+fold_all test false [] = refl
+fold_all test true (x ∷ xs) = fold_all test (test x) xs
+fold_all test false (x ∷ xs) = fold_all test false xs
 
 pub returns : goal.returns
 returns g c =
     let e = g.E.Element in
-    let done : c.loop-i.i ≡ length c.args.sums.now = omega (arith, c.loop-i-test.false, c.loop-i.auto.i-end) in
-    c.loop-i.invariant ∙ ap (every (λ s. e.same (get_or c.args.sums.now s e.zero) e.zero)) done
+    fold_from_yields_List _ (λ clean x. clean && e.same x e.zero) true c.fold.result c.fold.ensures.ran (YieldsList-from_slice c.args.sums.now cc)
+    (λ a x b q k. let law = g.met.E.Element.test x.now c.zero-zero.result in let is = c.zero-zero.ensures in search rules)
+    ∙ fold_all (λ x. e.same x e.zero) true c.args.sums.now

@@ -1,7 +1,5 @@
-use Rattle.qc.specs.Segments.{Written}
+use Rattle.std.proofs.Common.{◌≡◌, ℕ, ◌<◌, get_or}
 use Rattle.qc.proofs.kernel.clear.Given as goal
 
-abbrev pub invariant-loop-i : goal.invariant-loop-i
-invariant-loop-i g l =
-    let e = g.E.Element in
-    Written e.zero (λ s. e.zero) 0 l.initial.sums l.sums l.i
+abbrev pub invariant-loop-sum : goal.invariant-loop-sum
+invariant-loop-sum g l = (s : ℕ) → s < l.sum-index → get_or l.sums s g.E.Element.zero ≡ g.E.Element.zero
