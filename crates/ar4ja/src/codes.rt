@@ -1,7 +1,8 @@
 // The three codes.
 ghost use Rattle.std.specs.Prelude.{◌≡◌, true, ◌+◌, length};
 ghost use Rattle.refusal.specs.Outcome.{outcome};
-ghost use Rattle.qc.specs.Shape.{M, sent, whole};
+ghost use Rattle.qc.specs.Shape.{sent, first, second, known, asked, closing, permutations};
+ghost use Rattle.qc.specs.Terms.{terms};
 ghost use Rattle.ar4ja.specs.Codes.{shape_of, tables_of, shapes_sound, tables_ruled, number_of, named};
 ghost use Rattle.ar4ja.specs.Refusals.{code_fault};
 ghost use Rattle.ar4ja.specs.Worked.{worked, all_agree};
@@ -15,9 +16,9 @@ use refusal::Refusal;
 // A code, by its rate and its number of information bits.
 #[derive(Clone, Copy, PartialEq, Eq, Debug)]
 pub enum Code {
-    Half1024,
-    TwoThirds1024,
-    FourFifths1024,
+    Half1024 = 1,
+    TwoThirds1024 = 2,
+    FourFifths1024 = 3,
 }
 
 // Why a code was not named.
@@ -37,11 +38,13 @@ impl Refusal for CodeFault {
     }
 }
 
-impl Code {
-    // The code of a number, 1 to 3.
-    pub fn from_number(n: u32) -> Result<Code, CodeFault>
-        ensures { outcome code_fault result ≡ named n }
-    {
+// The code of a number, 1 to 3.
+impl TryFrom<u32> for Code {
+    type Error = CodeFault;
+
+    ghost try_from_gives = { λ n r. outcome code_fault r ≡ named n };
+
+    fn try_from(n: u32) -> Result<Code, CodeFault> {
         match n {
             1 => Ok(Code::Half1024),
             2 => Ok(Code::TwoThirds1024),
@@ -49,59 +52,100 @@ impl Code {
             _ => Err(CodeFault::Unknown),
         }
     }
+}
 
-    // The number of a code.
-    pub fn number(self) -> u32
-        ensures { result ≡ number_of self }
-    {
-        match self {
-            Code::Half1024 => 1,
-            Code::TwoThirds1024 => 2,
-            Code::FourFifths1024 => 3,
-        }
-    }
+// The number of a code.
+impl From<Code> for u32 {
+    ghost from_gives = { λ code n. n ≡ number_of code };
 
-    // How many elements a group has, M.
-    pub fn group_len(self) -> usize
-        ensures { result ≡ M (shape_of self) }
-    {
-        match self {
-            Code::Half1024 => 512,
-            Code::TwoThirds1024 => 256,
-            Code::FourFifths1024 => 128,
-        }
+    fn from(code: Code) -> u32 {
+        code as u32
     }
+}
 
-    // How many elements of a block are sent, n.
-    pub fn block_len(self) -> usize
-        ensures { result ≡ sent (shape_of self) }
-    {
-        match self {
-            Code::Half1024 => 2048,
-            Code::TwoThirds1024 => 1536,
-            Code::FourFifths1024 => 1280,
-        }
-    }
-
-    // How many elements a whole block has, its punctured group included, N.
-    pub fn whole_len(self) -> usize
-        ensures { result ≡ whole (shape_of self) }
-    {
-        match self {
-            Code::Half1024 => 2560,
-            Code::TwoThirds1024 => 1792,
-            Code::FourFifths1024 => 1408,
-        }
-    }
+impl Code {
+    // Every code, by rising number.
+    pub const ALL: [Code; 3] = [Code::Half1024, Code::TwoThirds1024, Code::FourFifths1024];
 
     // How many bits a frame has: the attached sync marker, then the block, F.
     pub fn frame_len(self) -> usize
         ensures { result ≡ 64 + sent (shape_of self) }
     {
+        64 + self.block_len()
+    }
+}
+
+// The parameters of a code: how many message groups and how wide a segment, its lists for the loops, and its
+// tables of first rows.
+#[derive(Drop)]
+struct Parameters {
+    message_groups: usize,
+    segment: usize,
+    table: &'static [Permutation],
+    first_terms: &'static [Term],
+    second_terms: &'static [Term],
+    known_terms: &'static [Term],
+    message_terms: &'static [Term],
+    asked_terms: &'static [Term],
+    closing_terms: &'static [Term],
+    generator: &'static [u32],
+    inverse: &'static [u32],
+}
+
+impl Code {
+    fn parameters(self) -> Parameters
+        ensures message_groups { result.message_groups ≡ (shape_of self).K }
+        ensures segment { result.segment ≡ (shape_of self).m }
+        ensures table { result.table.now ≡ permutations (shape_of self) }
+        ensures first_terms { result.first_terms.now ≡ terms (first (shape_of self)) }
+        ensures second_terms { result.second_terms.now ≡ terms (second (shape_of self)) }
+        ensures known_terms { result.known_terms.now ≡ terms (known (shape_of self)) }
+        ensures message_terms { result.message_terms.now ≡ terms (shape_of self).u3 }
+        ensures asked_terms { result.asked_terms.now ≡ terms (asked (shape_of self)) }
+        ensures closing_terms { result.closing_terms.now ≡ terms (closing (shape_of self)) }
+        ensures generator { result.generator.now ≡ (tables_of self).generator }
+        ensures inverse { result.inverse.now ≡ (tables_of self).inverse }
+    {
         match self {
-            Code::Half1024 => 2112,
-            Code::TwoThirds1024 => 1600,
-            Code::FourFifths1024 => 1344,
+            Code::Half1024 => Parameters {
+                message_groups: 2,
+                segment: 128,
+                table: &HALF_1024,
+                first_terms: &HALF_FIRST,
+                second_terms: &HALF_SECOND,
+                known_terms: &HALF_THIRD,
+                message_terms: &HALF_MESSAGE,
+                asked_terms: &HALF_ASKED,
+                closing_terms: &HALF_CLOSING,
+                generator: &HALF_GENERATOR,
+                inverse: &HALF_INVERSE,
+            },
+            Code::TwoThirds1024 => Parameters {
+                message_groups: 4,
+                segment: 64,
+                table: &TWO_THIRDS_1024,
+                first_terms: &TWO_THIRDS_FIRST,
+                second_terms: &TWO_THIRDS_SECOND,
+                known_terms: &TWO_THIRDS_THIRD,
+                message_terms: &TWO_THIRDS_MESSAGE,
+                asked_terms: &TWO_THIRDS_ASKED,
+                closing_terms: &TWO_THIRDS_CLOSING,
+                generator: &TWO_THIRDS_GENERATOR,
+                inverse: &TWO_THIRDS_INVERSE,
+            },
+            Code::FourFifths1024 => Parameters {
+                message_groups: 8,
+                segment: 32,
+                table: &FOUR_FIFTHS_1024,
+                first_terms: &FOUR_FIFTHS_FIRST,
+                second_terms: &FOUR_FIFTHS_SECOND,
+                known_terms: &FOUR_FIFTHS_THIRD,
+                message_terms: &FOUR_FIFTHS_MESSAGE,
+                asked_terms: &FOUR_FIFTHS_ASKED,
+                closing_terms: &FOUR_FIFTHS_CLOSING,
+                generator: &FOUR_FIFTHS_GENERATOR,
+                inverse: &FOUR_FIFTHS_INVERSE,
+            },
         }
     }
 }
@@ -116,91 +160,47 @@ impl QuasiCyclic for Code {
     ghost ruled = { tables_ruled };
 
     fn message_groups(self) -> usize {
-        match self {
-            Code::Half1024 => 2,
-            Code::TwoThirds1024 => 4,
-            Code::FourFifths1024 => 8,
-        }
+        self.parameters().message_groups
     }
 
     fn segment(self) -> usize {
-        match self {
-            Code::Half1024 => 128,
-            Code::TwoThirds1024 => 64,
-            Code::FourFifths1024 => 32,
-        }
+        self.parameters().segment
     }
 
     fn table(self) -> &'static [Permutation] {
-        match self {
-            Code::Half1024 => &HALF_1024,
-            Code::TwoThirds1024 => &TWO_THIRDS_1024,
-            Code::FourFifths1024 => &FOUR_FIFTHS_1024,
-        }
+        self.parameters().table
     }
 
     fn first_terms(self) -> &'static [Term] {
-        match self {
-            Code::Half1024 => &HALF_FIRST,
-            Code::TwoThirds1024 => &TWO_THIRDS_FIRST,
-            Code::FourFifths1024 => &FOUR_FIFTHS_FIRST,
-        }
+        self.parameters().first_terms
     }
 
     fn second_terms(self) -> &'static [Term] {
-        match self {
-            Code::Half1024 => &HALF_SECOND,
-            Code::TwoThirds1024 => &TWO_THIRDS_SECOND,
-            Code::FourFifths1024 => &FOUR_FIFTHS_SECOND,
-        }
+        self.parameters().second_terms
     }
 
     fn known_terms(self) -> &'static [Term] {
-        match self {
-            Code::Half1024 => &HALF_THIRD,
-            Code::TwoThirds1024 => &TWO_THIRDS_THIRD,
-            Code::FourFifths1024 => &FOUR_FIFTHS_THIRD,
-        }
+        self.parameters().known_terms
     }
 
     fn message_terms(self) -> &'static [Term] {
-        match self {
-            Code::Half1024 => &HALF_MESSAGE,
-            Code::TwoThirds1024 => &TWO_THIRDS_MESSAGE,
-            Code::FourFifths1024 => &FOUR_FIFTHS_MESSAGE,
-        }
+        self.parameters().message_terms
     }
 
     fn asked_terms(self) -> &'static [Term] {
-        match self {
-            Code::Half1024 => &HALF_ASKED,
-            Code::TwoThirds1024 => &TWO_THIRDS_ASKED,
-            Code::FourFifths1024 => &FOUR_FIFTHS_ASKED,
-        }
+        self.parameters().asked_terms
     }
 
     fn closing_terms(self) -> &'static [Term] {
-        match self {
-            Code::Half1024 => &HALF_CLOSING,
-            Code::TwoThirds1024 => &TWO_THIRDS_CLOSING,
-            Code::FourFifths1024 => &FOUR_FIFTHS_CLOSING,
-        }
+        self.parameters().closing_terms
     }
 
     fn generator(self) -> &'static [u32] {
-        match self {
-            Code::Half1024 => &HALF_GENERATOR,
-            Code::TwoThirds1024 => &TWO_THIRDS_GENERATOR,
-            Code::FourFifths1024 => &FOUR_FIFTHS_GENERATOR,
-        }
+        self.parameters().generator
     }
 
     fn inverse(self) -> &'static [u32] {
-        match self {
-            Code::Half1024 => &HALF_INVERSE,
-            Code::TwoThirds1024 => &TWO_THIRDS_INVERSE,
-            Code::FourFifths1024 => &FOUR_FIFTHS_INVERSE,
-        }
+        self.parameters().inverse
     }
 }
 
