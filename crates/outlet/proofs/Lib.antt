@@ -1,7 +1,5 @@
-pub mod Answering
 pub mod Layered
 pub mod Tested
 pub mod Recurrence
 pub mod Digits
-pub mod Packings
-pub mod Levelings
+pub mod Storings

@@ -1,9 +1,8 @@
 -- The sequence meets its rule and repeats after 255 bits, and the table is one period of it.
 use Rattle.std.proofs.Common.{◌≡◌, ℕ, zero, suc, ◌+◌, ◌-◌, ◌*◌, ◌/◌, ◌%◌, ◌^◌, ◌<◌, T, eqb, get_or, sym, refl, ap, ◌∙◌, add-zero, add-suc, suc-mul, add_comm, arith}
-use Rattle.element.specs.declared.Bit.{Bit}
-use Rattle.element.specs.declared.Bit.TheVariants.{Zero, One}
-use Rattle.element.specs.Bits.{bit_plus}
-use Rattle.outlet.specs.Bytes.{weight}
+use Rattle.element.specs.declared.bits.Bit.{Bit}
+use Rattle.element.specs.declared.bits.Bit.TheVariants.{Zero, One}
+use Rattle.element.specs.Bits.{bit_plus, bit_if, weight}
 use Rattle.outlet.specs.Sequence.{Register, ones, shifted, from_register, s}
 use Rattle.outlet.specs.declared.sequence.TheConstants.{TABLE}
 use Rattle.outlet.proofs.Tested.{from_all}
@@ -51,18 +50,10 @@ repeats n = let e : n % 255 + n / 255 * 255 ≡ n = omega arith in sym (many (n 
 abbrev pub table_bit : ℕ → ℕ
 table_bit k = get_or TABLE (k / 32) 0 / 2 ^ (31 - k % 32) % 2
 
-is_zero : (b : Bit) → weight b ≡ 0 → Zero ≡ b
-is_zero Zero e = refl
-is_zero One e = absurd (omega arith)
-
-is_one : (b : Bit) → (weight b ≡ 0 → ⊥) → One ≡ b
-is_one Zero e = absurd (e refl)
-is_one One e = refl
+read_back : (b : Bit) → bit_if (eqb (weight b) 1) ≡ b
+read_back Zero = refl
+read_back One = refl
 
 -- where the table is one period of the sequence, its bits are the sequence's
-module _ (entries : (k : ℕ) → k < 255 → table_bit k ≡ weight (s k)) where
-  pub reads_zero : (i : ℕ) → table_bit (i % 255) ≡ 0 → Zero ≡ s i
-  reads_zero i e = is_zero (s (i % 255)) (sym (entries (i % 255) (omega arith)) ∙ e) ∙ repeats i
-
-  pub reads_one : (i : ℕ) → (table_bit (i % 255) ≡ 0 → ⊥) → One ≡ s i
-  reads_one i e = is_one (s (i % 255)) (λ z. e (entries (i % 255) (omega arith) ∙ z)) ∙ repeats i
+pub reads : ((k : ℕ) → k < 255 → table_bit k ≡ weight (s k)) → (i : ℕ) → bit_if (eqb (table_bit (i % 255)) 1) ≡ s i
+reads entries i = ap (λ n. bit_if (eqb n 1)) (entries (i % 255) (omega arith)) ∙ read_back (s (i % 255)) ∙ repeats i

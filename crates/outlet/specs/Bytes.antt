@@ -1,11 +1,8 @@
 -- Bits of a byte, the first the most significant.
 use Rattle.std.specs.Prelude.{ℕ, ◌+◌, ◌-◌, ◌*◌, ◌/◌, ◌%◌, ◌^◌, cond, ◌==◌}
-use Rattle.element.specs.declared.Bit.{Bit}
-use Rattle.element.specs.declared.Bit.TheVariants.{Zero, One}
-
-abbrev pub weight : Bit → ℕ
-weight Zero = 0
-weight One = 1
+use Rattle.element.specs.Bits.{weight}
+use Rattle.element.specs.declared.bits.Bit.{Bit}
+use Rattle.element.specs.declared.bits.Bit.TheVariants.{Zero, One}
 
 -- bit q of a byte, from 0
 abbrev pub bit_of : ℕ → ℕ → Bit

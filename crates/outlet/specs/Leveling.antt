@@ -1,8 +1,9 @@
 -- Bits as levels, one to a signed byte: −1 for 0 and +1 for 1.
 use Rattle.std.specs.Prelude.{◌≡◌, ℕ, ◌<◌, ◌≤◌, min, cond, ◌⊎◌, List, map, length, take, ℤ, pos, negsuc, nat_lt, slice_index_or}
 use Rattle.std.specs.List.{range_with_len}
-use Rattle.element.specs.declared.Bit.{Bit}
-use Rattle.element.specs.declared.Bit.TheVariants.{Zero, One}
+use Rattle.element.specs.declared.bits.Bit.{Bit}
+use Rattle.element.specs.declared.bits.Bit.TheVariants.{Zero, One}
+use Rattle.outlet.specs.Storing.{Form}
 
 abbrev pub level : Bit → ℤ
 level Zero = negsuc 0
@@ -12,6 +13,10 @@ level One = pos 1
 abbrev pub level_bit : ℤ → Bit
 level_bit (pos n) = One
 level_bit (negsuc n) = Zero
+
+-- a bit in a signed byte
+abbrev pub level_form : Form ℤ
+level_form = record { blank = pos 0; bit = λ x q. level_bit x; whole = λ f. level (f 0) }
 
 -- the bits of the first n levels
 abbrev pub level_bits : List ℤ → ℕ → List Bit

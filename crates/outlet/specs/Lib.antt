@@ -5,6 +5,8 @@ pub mod Bytes
 pub mod Sequence
 pub mod Masks
 pub mod LayerLaws
+pub mod Storing
+pub mod StoreLaws
 pub mod Packing
 pub mod PackedLaws
 pub mod Leveling

@@ -1,8 +1,8 @@
 -- A list of bits with a bit added at each place: what a layer shows.
 use Rattle.std.specs.Prelude.{◌≡◌, ℕ, suc, ◌+◌, ◌-◌, ◌%◌, cond, List, [], ◌∷◌, length, nat_lt, refl}
 use Rattle.std.proofs.Common.{ap}
-use Rattle.element.specs.declared.Bit.{Bit}
-use Rattle.element.specs.declared.Bit.TheVariants.{Zero, One}
+use Rattle.element.specs.declared.bits.Bit.{Bit}
+use Rattle.element.specs.declared.bits.Bit.TheVariants.{Zero, One}
 use Rattle.element.specs.Bits.{bit_plus}
 use Rattle.qc.specs.Shape.{sent}
 use Rattle.ar4ja.specs.declared.codes.Code.{Code}

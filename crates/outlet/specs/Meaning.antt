@@ -1,8 +1,8 @@
 -- What an outlet's calls answer, and what they leave. An outlet holds a list of bits and has room for so
 -- many; taking is told for a list of bits, of which all are put at the end or none is.
 use Rattle.std.specs.Prelude.{◌≡◌, ℕ, ◌+◌, ◌≤◌, cond, List, ◌++◌, length, nat_le, nat_lt, slice_index_or}
-use Rattle.element.specs.declared.Bit.{Bit}
-use Rattle.element.specs.declared.Bit.TheVariants.{Zero}
+use Rattle.element.specs.declared.bits.Bit.{Bit}
+use Rattle.element.specs.declared.bits.Bit.TheVariants.{Zero}
 use Rattle.refusal.specs.Outcome.{Outcome, Outcome.done, Outcome.refused}
 use Rattle.outlet.specs.declared.faults.TakeFault.TheVariants.{Full}
 use Rattle.outlet.specs.declared.faults.PlaceFault.TheVariants.{NotHeld}

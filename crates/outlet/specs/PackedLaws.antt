@@ -1,29 +1,27 @@
--- That the packed outlet is lawful.
-use Rattle.std.proofs.Common.{sym, ap, ◌∙◌, inl, inr, arith}
-use Rattle.std.specs.Prelude.{ℕ, List, vec_items, vec_len, refl}
-use Rattle.std.proofs.lemmas.List.FromFn.{length-map-range_with_len}
-use Rattle.outlet.specs.Meaning.{Lawful}
-use Rattle.outlet.specs.Packing.{place_bit, packed_bits, packed_room, Packs}
-use Rattle.outlet.specs.declared.packed_type.Packed.{Packed}
+-- That a byte is a cell of eight bits, and what a store of bytes holds.
+use Rattle.std.specs.Prelude.{◌≡◌, ℕ, ◌<◌, List, refl}
+use Rattle.std.proofs.Common.{ap, arith}
+use Rattle.element.specs.declared.bits.Bit.{Bit}
+use Rattle.element.specs.Bits.{weight}
+use Rattle.outlet.specs.Bytes.{pack}
+use Rattle.outlet.specs.Storing.{FormLaws, stored_bit, stored_bits}
+use Rattle.outlet.specs.Packing.{place_bit, packed_bits, byte_form}
 
-pub unpacked : (xs : List ℕ) (n : ℕ) → Packs xs xs n n
-unpacked xs n = record { long = refl; more = omega arith; others = λ k e. refl; opened = λ k made h. made h }
+pub pack_same : (f g : ℕ → Bit) → ((j : ℕ) → j < 8 → f j ≡ g j) → pack f ≡ pack g
+pack_same f g h =
+    let e0 = ap weight (h 0 (omega arith)) in
+    let e1 = ap weight (h 1 (omega arith)) in
+    let e2 = ap weight (h 2 (omega arith)) in
+    let e3 = ap weight (h 3 (omega arith)) in
+    let e4 = ap weight (h 4 (omega arith)) in
+    let e5 = ap weight (h 5 (omega arith)) in
+    let e6 = ap weight (h 6 (omega arith)) in
+    let e7 = ap weight (h 7 (omega arith)) in
+    omega arith
 
-onward : (xs ys zs : List ℕ) (l m n : ℕ) → Packs xs ys l m → Packs ys zs m n → Packs xs zs l n
-onward xs ys zs l m n h k = record {
-  long = k.long ∙ h.long;
-  more = omega (arith, h.more, k.more);
-  others = λ j e. elim e [
-    | inl a ↦ k.others j (inl (omega (arith, h.more))) ∙ h.others j (inl a)
-    | inr a ↦ k.others j (inr a) ∙ h.others j (inr (omega (arith, k.more)))
-  ];
-  opened = λ j made e. k.opened j (λ d. h.opened j made d) e;
-}
+pub byte_laws : FormLaws 8 byte_form
+byte_laws = record { some = omega arith; few = omega arith; same = pack_same }
 
-pub packed_lawful : Lawful {S = Packed} (λ o. packed_bits (vec_items o.bytes) o.held) (λ o. packed_room (vec_len o.bytes)) (λ o p. Packs (vec_items o.bytes) (vec_items p.bytes) o.held p.held)
-packed_lawful = record {
-  within = λ o. omega (arith, length-map-range_with_len (place_bit (vec_items o.bytes)) 0 o.held, o.fits);
-  reflexive = λ o. unpacked _ _;
-  transitive = λ a b c h k. onward _ _ _ _ _ _ h k;
-  steady = λ a b h. ap packed_room (b.bytes.ok.0 ∙ h.long ∙ sym a.bytes.ok.0);
-}
+pub packed_is : (xs : List ℕ) (n : ℕ) → stored_bits 8 byte_form xs n ≡ packed_bits xs n
+unfolding stored_bit place_bit
+packed_is xs n = refl

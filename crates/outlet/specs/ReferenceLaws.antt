@@ -2,7 +2,7 @@
 use Rattle.std.specs.Prelude.{◌≡◌, ℕ, List, refl}
 use Rattle.std.proofs.Common.{◌∙◌}
 use Rattle.std.specs.Borrow.{MutBor}
-use Rattle.element.specs.declared.Bit.{Bit}
+use Rattle.element.specs.declared.bits.Bit.{Bit}
 use Rattle.outlet.specs.Meaning.{Lawful}
 
 module _ {O : Type 0} {bits : O → List Bit} {room : O → ℕ} {kept : O → O → Type 0} (low : Lawful bits room kept) where

@@ -1,8 +1,8 @@
 -- The randomizing sequence s: eight ones, then s(i + 8) = s(i + 7) + s(i + 5) + s(i + 3) + s(i), which is
 -- the recurrence of the polynomial x^8 + x^7 + x^5 + x^3 + 1.
 use Rattle.std.specs.Prelude.{ℕ, zero, suc, ◌+◌}
-use Rattle.element.specs.declared.Bit.{Bit}
-use Rattle.element.specs.declared.Bit.TheVariants.{One}
+use Rattle.element.specs.declared.bits.Bit.{Bit}
+use Rattle.element.specs.declared.bits.Bit.TheVariants.{One}
 use Rattle.element.specs.Bits.{bit_plus}
 use Rattle.outlet.specs.Bytes.{pack}
 

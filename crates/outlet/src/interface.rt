@@ -1,6 +1,6 @@
 // What every outlet is.
 ghost use Rattle.std.specs.Prelude.{◌≡◌, ℕ, List, [], ◌∷◌, length};
-ghost use Rattle.element.specs.declared.Bit.{Bit};
+ghost use Rattle.element.specs.declared.bits.Bit.{Bit};
 ghost use Rattle.refusal.specs.Outcome.{outcome};
 ghost use Rattle.outlet.specs.Refusals.{take_fault, place_fault};
 ghost use Rattle.outlet.specs.Meaning.{Lawful, take_answer, taken, bit_answer};

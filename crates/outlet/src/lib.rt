@@ -4,22 +4,23 @@
 #![tactic(auto)]
 
 mod bytes;
+mod cell;
 mod faults;
 mod interface;
 mod inverting;
-mod level_outlet;
-mod level_type;
-mod packed_outlet;
-mod packed_type;
+mod layer;
+mod levels;
+mod packed;
 mod randomizing;
 mod reference;
 mod sequence;
+mod store;
 
 pub use bytes::byte_bit;
 pub use faults::{PlaceFault, TakeFault};
 pub use interface::Outlet;
 pub use inverting::Inverter;
-pub use level_type::Levels;
-pub use packed_type::Packed;
+pub use levels::Levels;
+pub use packed::Packed;
 pub use randomizing::{MARKER_LEN, Randomizer};
 pub use sequence::{randomizing_bit, sequence_period};

@@ -1,7 +1,7 @@
 // The randomizing sequence.
 ghost use Rattle.std.specs.Prelude.{◌≡◌, ℕ, ◌+◌, ◌<◌, [], ◌∷◌, map};
 ghost use Rattle.element.specs.Bits.{bit_plus};
-ghost use Rattle.element.specs.declared.Bit.TheVariants.{One};
+ghost use Rattle.element.specs.declared.bits.Bit.TheVariants.{One};
 ghost use Rattle.outlet.specs.Sequence.{s, byte_from};
 
 use element::Bit;
@@ -20,11 +20,7 @@ pub fn randomizing_bit(i: usize) -> Bit
 {
     let k = i % PERIOD;
     let word = TABLE[k / 32];
-    if (word >> (31 - k % 32)) % 2 == 0 {
-        Bit::Zero
-    } else {
-        Bit::One
-    }
+    Bit::from((word >> (31 - k % 32)) % 2 == 1)
 }
 
 // After how many bits the sequence begins again. The clauses say what the sequence is: eight ones, then

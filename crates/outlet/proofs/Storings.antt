@@ -1,0 +1,153 @@
+-- A bit written among cells, and what the cells are after any number of takes.
+use Rattle.std.proofs.Common.{◌≡◌, ℕ, ◌+◌, ◌*◌, ◌/◌, ◌%◌, ◌<◌, ◌≤◌, ◌⊎◌, min, Bool, cond, ltb, List, [], ◌∷◌, ◌++◌, map, length, get_or, set, sym, ap, ◌∙◌, subst, ap₂, inl, inr, mul_comm, arith}
+use Rattle.std.specs.List.{range_with_len}
+use Rattle.std.proofs.lemmas.Bool.{cases_eq, cases_lt, lt-ltb, le-ltb, cond-true, cond-false}
+use Rattle.std.proofs.lemmas.Bool.Decides.{nat_tests}
+use Rattle.std.proofs.Math.Nat.{div-add-mod}
+use Rattle.std.proofs.lemmas.Nat.{div-mul-add, mod-mul-add, mod_below, row_fits, div_below}
+use Rattle.std.proofs.lemmas.List.{get_or-set_same, get_or-set_other, get_or_past, length-set}
+use Rattle.std.proofs.lemmas.List.FromFn.{length-map-range_with_len, get_or-map-range_with_len, map-range_with_len_more, fill_by_all}
+use Rattle.element.specs.declared.bits.Bit.{Bit}
+use Rattle.element.specs.declared.bits.Bit.TheVariants.{Zero}
+use Rattle.outlet.specs.Storing.{Form, FormLaws, Written, store_room, stored_bit, stored_bits, MadeOf, Stores, cell_after, cells_after}
+
+same_counting : (f g : ℕ → Bit) (n : ℕ) → ((k : ℕ) → k < n → f k ≡ g k) → map f (range_with_len 0 n) ≡ map g (range_with_len 0 n)
+same_counting f g n h =
+    fill_by_all g (map f (range_with_len 0 n)) n Zero (length-map-range_with_len f 0 n)
+    (λ k l. get_or-map-range_with_len f 0 n k k Zero l (omega arith) ∙ h k l)
+
+-- a cell that begins no later than place p, and is not that of p, ends before it
+ends_before : (per k p : ℕ) → 0 < per → (k ≡ p / per → ⊥) → per * k ≤ p → per * k + per ≤ p
+ends_before per k p some ne h = elim (cases_lt k (p / per)) [
+  | inl l ↦ omega (arith, row_fits k per (p / per) per l (omega arith), mul_comm k per, mul_comm (p / per) per, div-add-mod p per)
+  | inr l ↦
+      let over : p / per < k = omega (arith, ne) in
+      absurd (omega (arith, row_fits (p / per) per k per over (omega arith), mul_comm k per, mul_comm (p / per) per, div-add-mod p per, mod_below p per some))
+]
+
+-- the cell of a place that there is room for
+pub within_cells : (per p count : ℕ) → 0 < per → p < store_room per count → p / per < count
+within_cells per p count some h = omega (arith, div_below p per (min count 1048576) some (omega (arith, mul_comm per (min count 1048576))))
+
+module _ {C : Type 0} (per : ℕ) (form : Form C) (laws : FormLaws per form) (xs : List C) (held : ℕ) (b : Bit) (y : C) (within : held / per < length xs) (is : Written form (get_or xs (held / per) form.blank) (held % per) b y) where
+  put : List C
+  put = set xs (held / per) y
+
+  written : get_or put (held / per) form.blank ≡ y
+  unfolding put
+  written = get_or-set_same xs (held / per) y form.blank within
+
+  other : (k : ℕ) → (k ≡ held / per → ⊥) → get_or put k form.blank ≡ get_or xs k form.blank
+  unfolding put
+  other k ne = get_or-set_other xs (held / per) k y form.blank ne
+
+  there : stored_bit per form put held ≡ b
+  unfolding stored_bit
+  there = ap (λ (z : C). form.bit z (held % per)) written ∙ is.there
+
+  before : (p : ℕ) → p < held → stored_bit per form put p ≡ stored_bit per form xs p
+  unfolding stored_bit
+  before p h = elim (cases_eq (p / per) (held / per)) [
+    | inl e ↦
+        let low : p % per < held % per = omega (arith, div-add-mod p per, div-add-mod held per, ap (λ n. per * n) e) in
+        ap (λ n. form.bit (get_or put n form.blank) (p % per)) e
+        ∙ ap (λ (z : C). form.bit z (p % per)) written
+        ∙ is.before (p % per) low
+        ∙ ap (λ n. form.bit (get_or xs n form.blank) (p % per)) (sym e)
+    | inr ne ↦ ap (λ (z : C). form.bit z (p % per)) (other (p / per) ne)
+  ]
+
+  put_bits : stored_bits per form (set xs (held / per) y) (held + 1) ≡ stored_bits per form xs held ++ (b ∷ [])
+  unfolding put
+  put_bits =
+      map-range_with_len_more (stored_bit per form put) 0 held held (omega arith)
+      ∙ ap (λ (z : List Bit). z ++ (stored_bit per form put held ∷ [])) (same_counting (stored_bit per form put) (stored_bit per form xs) held before)
+      ∙ ap (λ (z : Bit). stored_bits per form xs held ++ (z ∷ [])) there
+
+  -- the cell that the bit was put into
+  opens : MadeOf per form put (held + 1) (held / per)
+  opens =
+      written ∙ is.made
+      ∙ laws.same (λ j. cond (ltb j (held % per + 1)) (form.bit y j) Zero)
+      (λ j. cond (ltb (per * (held / per) + j) (held + 1)) (form.bit (get_or put (held / per) form.blank) j) Zero)
+      (λ j l.
+      let all = div-add-mod held per in
+      let t : ltb j (held % per + 1) ≡ ltb (per * (held / per) + j) (held + 1) = grind (arith, nat_tests) in
+      ap₂ (λ (z : Bool) (n : C). cond z (form.bit n j) Zero) t (sym written))
+
+  -- a cell that was there before
+  stays : (k : ℕ) → (k ≡ held / per → ⊥) → per * k < held + 1 → MadeOf per form xs held k → MadeOf per form put (held + 1) k
+  stays k ne h made =
+      other k ne ∙ made
+      ∙ laws.same (λ j. cond (ltb (per * k + j) held) (form.bit (get_or xs k form.blank) j) Zero)
+      (λ j. cond (ltb (per * k + j) (held + 1)) (form.bit (get_or put k form.blank) j) Zero)
+      (λ j l.
+      let ended = ends_before per k held laws.some ne (omega arith) in
+      let t : ltb (per * k + j) held ≡ ltb (per * k + j) (held + 1) = lt-ltb _ _ (omega arith) ∙ sym (lt-ltb _ _ (omega arith)) in
+      ap₂ (λ (z : Bool) (n : C). cond z (form.bit n j) Zero) t (sym (other k ne)))
+
+  apart : (k : ℕ) → (per * k + per ≤ held) ⊎ (held + 1 ≤ per * k) → k ≡ held / per → ⊥
+  apart k e s =
+      let here = ap (λ n. per * n) s in
+      elim e [ inl a ↦ omega (arith, here, div-add-mod held per, mod_below held per laws.some) | inr a ↦ omega (arith, here, div-add-mod held per) ]
+
+  put_stores : Stores per form xs (set xs (held / per) y) held (held + 1)
+  unfolding put
+  put_stores = record {
+    long = length-set xs (held / per) y;
+    more = omega arith;
+    others = λ k e. other k (apart k e);
+    opened = λ k made h. elim (cases_eq k (held / per)) [
+      | inl e ↦ subst (λ m. MadeOf per form put (held + 1) m) (sym e) opens
+      | inr ne ↦ stays k ne h (made (omega (arith, ends_before per k held laws.some ne (omega arith), laws.some)))
+    ];
+  }
+
+  -- the bits held after the bit was put, and what is unchanged
+  pub put_cell : (stored_bits per form (set xs (held / per) y) (held + 1) ≡ stored_bits per form xs held ++ (b ∷ [])) × Stores per form xs (set xs (held / per) y) held (held + 1)
+  put_cell = (put_bits, put_stores)
+
+module _ {C : Type 0} (per : ℕ) (form : Form C) (laws : FormLaws per form) where
+  -- bit j of cell k, among the bits held
+  held_bit : (xs : List C) (held k j : ℕ) → j < per → cond (ltb (per * k + j) held) (form.bit (get_or xs k form.blank) j) Zero ≡ get_or (stored_bits per form xs held) (per * k + j) Zero
+  unfolding stored_bit
+  held_bit xs held k j l = elim (cases_lt (per * k + j) held) [
+    | inl h ↦
+        let turned = ap (λ n. n + j) (mul_comm per k) in
+        let d : (per * k + j) / per ≡ k = ap (λ n. n / per) turned ∙ div-mul-add k per j l in
+        let m : (per * k + j) % per ≡ j = ap (λ n. n % per) turned ∙ mod-mul-add k per j l in
+        cond-true (ltb (per * k + j) held) (form.bit (get_or xs k form.blank) j) Zero (lt-ltb (per * k + j) held h)
+        ∙ sym (ap₂ (λ p q. form.bit (get_or xs p form.blank) q) d m)
+        ∙ sym (get_or-map-range_with_len (stored_bit per form xs) 0 held (per * k + j) (per * k + j) Zero h (omega arith))
+    | inr h ↦
+        cond-false (ltb (per * k + j) held) (form.bit (get_or xs k form.blank) j) Zero (le-ltb (per * k + j) held h)
+        ∙ sym (get_or_past (stored_bits per form xs held) (per * k + j) Zero (omega (arith, length-map-range_with_len (stored_bit per form xs) 0 held)))
+  ]
+
+  -- what the cells are, by those of an earlier state that held whole cells, and the bits held
+  pub stored_since : (old new : List C) (n held : ℕ) → n % per ≡ 0 → Stores per form old new n held → new ≡ cells_after per form old n (stored_bits per form new held)
+  stored_since old new n held whole p =
+      fill_by_all (cell_after per form old n (stored_bits per form new held)) new (length old) form.blank p.long
+      (λ k l.
+      let many = length-map-range_with_len (stored_bit per form new) 0 held in
+      let made = form.whole (λ j. get_or (stored_bits per form new held) (per * k + j) Zero) in
+      let was = get_or old k form.blank in
+      elim (cases_lt (per * k) n) [
+        | inl a ↦
+            let ended = ends_before per k n laws.some (λ e. omega (arith, ap (λ m. per * m) e, div-add-mod n per)) (omega arith) in
+            p.others k (inl ended) ∙ sym (cond-true (ltb (per * k) n) was _ (lt-ltb (per * k) n a))
+        | inr a ↦ elim (cases_lt (per * k) held) [
+          | inl c ↦
+              p.opened k (λ d. absurd (omega arith)) c
+              ∙ laws.same (λ j. cond (ltb (per * k + j) held) (form.bit (get_or new k form.blank) j) Zero) (λ j. get_or (stored_bits per form new held) (per * k + j) Zero) (λ j m. held_bit new held k j m)
+              ∙ sym (cond-true (ltb (per * k) (length (stored_bits per form new held))) made was (lt-ltb (per * k) _ (omega arith)))
+              ∙ sym (cond-false (ltb (per * k) n) was _ (le-ltb (per * k) n a))
+          | inr c ↦
+              p.others k (inr c)
+              ∙ sym (cond-false (ltb (per * k) (length (stored_bits per form new held))) made was (le-ltb (per * k) _ (omega arith)))
+              ∙ sym (cond-false (ltb (per * k) n) was _ (le-ltb (per * k) n a))
+        ]
+      ])
+
+-- how many bits a store holds, and what its calls answer by that
+pub ruleset counted = (length-map-range_with_len, nat_tests)

@@ -1,0 +1,43 @@
+// The packed outlet.
+ghost use Rattle.std.specs.Prelude.{◌≡◌, vec_len};
+ghost use Rattle.outlet.specs.Packing.{byte_form, packed_room};
+ghost use Rattle.outlet.specs.PackedLaws.{byte_laws};
+
+use crate::bytes::{byte_bit, with_bit};
+use crate::cell::Cell;
+use crate::interface::Outlet;
+use crate::store::Stored;
+use element::Bit;
+
+impl Cell for u8 {
+    const PLACES: usize = 8;
+
+    ghost PLACES = { 8 };
+
+    ghost form = { byte_form };
+
+    ghost laws = { byte_laws };
+
+    fn bit(self, q: usize) -> Bit {
+        byte_bit(self, q)
+    }
+
+    fn with(self, q: usize, b: Bit) -> u8 {
+        with_bit(self, q, b)
+    }
+}
+
+// Bits packed into bytes, eight to a byte, the first bit the most significant.
+pub type Packed = Stored<u8>;
+
+impl Packed {
+    // An outlet that holds the bits of the bytes, as many as it can.
+    pub fn full(bytes: Vec<u8>) -> Packed
+        ensures bytes { result.bytes ≡ bytes }
+        ensures held { result.held ≡ packed_room (vec_len bytes) }
+    {
+        let mut packed = Packed::empty(bytes);
+        packed.held = packed.capacity();
+        packed
+    }
+}
