@@ -1,14 +1,10 @@
 -- Bits asked of an outlet, and distances from the marker and from its complement.
-use Rattle.std.proofs.Common.{◌≡◌, ℕ, zero, suc, ◌+◌, ◌-◌, ◌<◌, ◌≤◌, Bool, true, false, ltb, leb, List, length, get_or, Some, None, Option, sym, refl, ap, ◌∙◌, subst, ap₂, inl, inr, arith}
-use Rattle.std.proofs.lemmas.Bool.{cases_Bool, cond-true, cond-false, lt-ltb, le-leb, lt-leb, leb-true, false≢true}
-use Rattle.element.specs.declared.Bit.{Bit}
-use Rattle.element.specs.declared.Bit.TheVariants.{Zero, One}
+use Rattle.std.proofs.Common.{◌≡◌, ℕ, zero, suc, ◌+◌, ◌-◌, ◌<◌, ◌≤◌, Bool, true, false, not, cond, leb, List, get_or, Some, None, Option, sym, refl, ap, ◌∙◌, subst, inl, inr, arith}
+use Rattle.std.proofs.lemmas.Bool.{cases_Bool, cond-true, cond-false, le-leb, lt-leb, leb-true}
+use Rattle.element.specs.declared.bits.Bit.{Bit}
+use Rattle.element.specs.declared.bits.Bit.TheVariants.{Zero, One}
 use Rattle.element.specs.Bits.{bit_plus}
-use Rattle.refusal.specs.Outcome.{Numbered, Outcome, Outcome.done, Outcome.refused}
-use Rattle.outlet.specs.Bytes.{weight}
-use Rattle.outlet.specs.Meaning.{bit_answer}
-use Rattle.outlet.specs.Refusals.{place_fault}
-use Rattle.outlet.specs.declared.faults.PlaceFault.TheVariants.{NotHeld}
+use Rattle.element.specs.Bits.{bit_if, weight}
 use Rattle.frame.specs.declared.faults.Orientation.{Orientation}
 use Rattle.frame.specs.declared.faults.Orientation.TheVariants.{Upright, Complemented}
 use Rattle.frame.specs.Marker.{mark, differing, distance, found, Marked}
@@ -19,24 +15,10 @@ some_same x y e = cc
 pub none_some : {A : Type 0} (x : A) → ◌≡◌ {A = Option A} None (Some x) → ⊥
 none_some x e = let z : ◌≡◌ {A = ℕ} 0 1 = cc in absurd (omega arith)
 
-abbrev bit_or_zero : Outcome Bit → Bit
-bit_or_zero (done b) = b
-bit_or_zero (refused n) = Zero
-
-abbrev is_done : Outcome Bit → Bool
-is_done (done b) = true
-is_done (refused n) = false
-
-module _ (held : List Bit) (place : ℕ) (h : place < length held) where
-  told : bit_answer held place ≡ done (get_or held place Zero)
-  told = cond-true (ltb place (length held)) (done (get_or held place Zero)) (refused (place_fault NotHeld)) (lt-ltb place (length held) h)
-
-  -- the bit that an outlet answers at a place that it holds
-  pub bit_got : (b : Bit) → done b ≡ bit_answer held place → b ≡ get_or held place Zero
-  bit_got b e = ap bit_or_zero (e ∙ told)
-
-  pub never_lost : (n : Numbered) → refused n ≡ bit_answer held place → ⊥
-  never_lost n e = false≢true (ap is_done (e ∙ told))
+-- the bit of a test that says no
+pub bit_unless : (b : Bool) → bit_if (not b) ≡ cond b Zero One
+bit_unless true = refl
+bit_unless false = refl
 
 either_differs : (x y : Bit) → weight (bit_plus x (bit_plus y Zero)) + weight (bit_plus x (bit_plus y One)) ≡ 1
 either_differs Zero Zero = refl
@@ -48,16 +30,6 @@ either_differs One One = refl
 pub complements : (x y : ℕ → Bit) (n : ℕ) → differing x (λ i. bit_plus (y i) Zero) n + differing x (λ i. bit_plus (y i) One) n ≡ n
 complements x y zero = refl
 complements x y (suc n) = omega (arith, complements x y n, either_differs (x n) (y n))
-
-plus_zero : (b : Bit) → bit_plus b Zero ≡ b
-plus_zero Zero = refl
-plus_zero One = refl
-
--- one bit more is compared
-pub one_more : (x y : ℕ → Bit) (n d w : ℕ) (b m p : Bit) → d ≡ differing x (λ i. bit_plus (y i) Zero) n → w ≡ weight p → p ≡ bit_plus b m → b ≡ x n → m ≡ y n → d + w ≡ differing x (λ i. bit_plus (y i) Zero) (n + 1)
-one_more x y n d w b m p before e f g h =
-    ap₂ (λ k l. k + l) before (e ∙ ap weight (f ∙ ap₂ bit_plus g (h ∙ sym (plus_zero (y n)))))
-    ∙ ap (differing x (λ i. bit_plus (y i) Zero)) (let next : suc n ≡ n + 1 = omega arith in next)
 
 pub distances : (held : List Bit) (place : ℕ) → distance Upright held place + distance Complemented held place ≡ 64
 unfolding distance

@@ -1,9 +1,9 @@
 -- The attached sync marker of a frame, and how far the bits at a place are from it.
-use Rattle.std.specs.Prelude.{◌≡◌, ℕ, zero, suc, ◌+◌, ◌-◌, ◌/◌, ◌%◌, ◌^◌, ◌≤◌, cond, List, Some, None, Option, ◌==◌, nat_le, nat_lt, slice_index_or}
-use Rattle.element.specs.declared.Bit.{Bit}
-use Rattle.element.specs.declared.Bit.TheVariants.{Zero, One}
+use Rattle.std.specs.Prelude.{◌≡◌, ℕ, zero, suc, ◌+◌, ◌-◌, ◌/◌, ◌%◌, ◌^◌, ◌≤◌, cond, List, Some, None, Option, ◌==◌, codes, nat_le, nat_lt, slice_index_or}
+use Rattle.element.specs.declared.bits.Bit.{Bit}
+use Rattle.element.specs.declared.bits.Bit.TheVariants.{Zero, One}
 use Rattle.element.specs.Bits.{bit_plus}
-use Rattle.outlet.specs.Bytes.{weight}
+use Rattle.element.specs.Bits.{weight}
 use Rattle.frame.specs.declared.faults.Orientation.{Orientation}
 use Rattle.frame.specs.declared.faults.Orientation.TheVariants.{Upright, Complemented}
 
@@ -19,6 +19,11 @@ mark i = cond (nat_lt i 64) (cond (marker_word / 2 ^ (63 - i) % 2 == 0) Zero One
 abbrev pub flipped : Orientation → Bit
 flipped Upright = Zero
 flipped Complemented = One
+
+-- the word for the way a frame stands
+abbrev pub orientation_word : Orientation → List ℕ
+orientation_word Upright = codes "upright"
+orientation_word Complemented = codes "complemented"
 
 -- in how many of the first n places two rows of bits differ
 abbrev pub differing : (ℕ → Bit) → (ℕ → Bit) → ℕ → ℕ

@@ -2,8 +2,8 @@
 use Rattle.std.specs.Prelude.{ℕ, ◌+◌, cond, List, ◌++◌, map, length, drop, Some, None, Option, ◌==◌, nat_le, nat_lt, slice_index_or}
 use Rattle.std.specs.List.{range_with_len}
 use Rattle.refusal.specs.Outcome.{Outcome, Outcome.done, Outcome.refused}
-use Rattle.element.specs.declared.Bit.{Bit}
-use Rattle.element.specs.declared.Bit.TheVariants.{Zero}
+use Rattle.element.specs.declared.bits.Bit.{Bit}
+use Rattle.element.specs.declared.bits.Bit.TheVariants.{Zero}
 use Rattle.element.specs.Bits.{bit_plus, bit_same}
 use Rattle.qc.specs.Shape.{M, sent, whole}
 use Rattle.qc.specs.Codeblock.{completed, groups, Codeblock}

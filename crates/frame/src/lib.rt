@@ -5,6 +5,7 @@
 mod bytes;
 mod faults;
 mod marker;
+mod place;
 mod reading;
 
 pub use bytes::message_len;

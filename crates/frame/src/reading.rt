@@ -1,22 +1,19 @@
 // Reading a frame from an outlet.
-ghost use Rattle.std.specs.Prelude.{◌≡◌, ℕ, ◌+◌, ◌^◌, ◌<◌, ◌≤◌, ◌↔◌, ◌++◌, length, drop, None, Ok};
-ghost use Rattle.refusal.specs.Outcome.{outcome};
+ghost use Rattle.std.specs.Prelude.{◌≡◌, ℕ, ◌≤◌, ◌↔◌, length, None, Ok};
+ghost use Rattle.refusal.specs.Outcome.{outcome, unless};
 ghost use Rattle.frame.specs.declared.faults.Orientation.{Orientation};
 ghost use Rattle.frame.specs.declared.faults.Orientation.TheVariants.{Upright, Complemented};
 ghost use Rattle.frame.specs.Refusals.{read_fault};
-ghost use Rattle.frame.specs.Marker.{flipped, found, Marked};
-ghost use Rattle.frame.specs.Reading.{received, MarkedCodeblock, due, read_answer, read_run, read_message};
+ghost use Rattle.frame.specs.Marker.{Marked};
+ghost use Rattle.frame.specs.Reading.{MarkedCodeblock, due, read_answer, read_run, read_message};
 
-use crate::bytes::gather;
+use crate::bytes::{gather, message_len};
 use crate::faults::{Orientation, ReadFault};
-use crate::marker::{MARKER_LEN, find_marker};
+use crate::place::Place;
 use ar4ja::Code;
-use element::{Bit, Element};
-use outlet::{Outlet, randomizing_bit};
-use qc::{Verdict, check};
-
-// How many bytes a message has.
-const MESSAGE_LEN: usize = 128;
+use element::Bit;
+use outlet::Outlet;
+use qc::{QuasiCyclic, check};
 
 // No larger tolerance is lawful: up to it, a marker can not be taken for its complement.
 const LARGEST_TOLERANCE: u32 = 15;
@@ -29,47 +26,22 @@ fn refusal_due(
     tolerance: u32,
     message: usize,
     run: usize,
-) -> Option<ReadFault>
-    ensures { result ≡ due held place code tolerance message run }
+) -> Result<(), ReadFault>
+    ensures { result ≡ unless (due held place code tolerance message run) }
 {
     if tolerance > LARGEST_TOLERANCE {
-        return Some(ReadFault::Tolerance);
+        return Err(ReadFault::Tolerance);
     }
-    if message != MESSAGE_LEN {
-        return Some(ReadFault::MessageLength);
+    if message != message_len(code) {
+        return Err(ReadFault::MessageLength);
     }
     if run < code.whole_len() {
-        return Some(ReadFault::RunTooShort);
+        return Err(ReadFault::RunTooShort);
     }
     if place > held || held - place < code.frame_len() {
-        return Some(ReadFault::NotHeld);
+        return Err(ReadFault::NotHeld);
     }
-    None
-}
-
-// What is added to each bit of a frame to set it upright.
-fn flip(orientation: Orientation) -> Bit
-    ensures { result ≡ flipped orientation }
-{
-    match orientation {
-        Orientation::Upright => Bit::Zero,
-        Orientation::Complemented => Bit::One,
-    }
-}
-
-// Writes the `count` bits of the block in the frame at a place to the front of the run, without the
-// randomizing sequence and without `turn`, which was added to all.
-fn fetch<O: Outlet>(outlet: &O, place: usize, turn: Bit, count: usize, run: &mut [Bit])
-    requires run { count ≤ length run.old }
-    requires held { place + 64 + count ≤ length (O.bits outlet.now) }
-    requires fits { place + 64 + count < 2 ^ 64 }
-    ensures { run.new ≡ received turn (O.bits outlet.now) place count ++ drop count run.old }
-{
-    for i in 0..count {
-        if let Ok(b) = outlet.bit_at(place + MARKER_LEN + i) {
-            run[i] = b.plus(randomizing_bit(i)).plus(turn);
-        }
-    }
+    Ok(())
 }
 
 // Reads the frame at a place. It answers which way its bits stand and in how many bits its marker
@@ -90,28 +62,24 @@ pub fn read<O: Outlet>(
     ensures accepts { due (length (O.bits outlet.now)) place code tolerance (length message.old) (length run.old) ≡ None → (way : Orientation) (d : ℕ) → result ≡ Ok (way, d) ↔ MarkedCodeblock (O.bits outlet.now) place code tolerance way d }
     ensures one { tolerance ≤ 15 → (d e : ℕ) → Marked (O.bits outlet.now) place tolerance Upright d → Marked (O.bits outlet.now) place tolerance Complemented e → ⊥ }
 {
-    if let Some(fault) = refusal_due(
+    refusal_due(
         outlet.held(),
         place,
         code,
         tolerance,
         message.len(),
         run.len(),
-    ) {
-        return Err(fault);
-    }
-    let Some((orientation, distance)) = find_marker(outlet, place, tolerance) else {
-        return Err(ReadFault::NoMarker);
+    )?;
+    let frame = Place {
+        outlet,
+        start: place,
+        code,
     };
-    fetch(outlet, place, flip(orientation), code.block_len(), run);
-    let Ok(verdict) = check(code, run) else {
-        return Err(ReadFault::RunTooShort);
-    };
-    match verdict {
-        Verdict::Passes => {
-            gather(run, message);
-            Ok((orientation, distance))
-        }
-        Verdict::Fails(row) => Err(ReadFault::Fails(row)),
+    let (way, distance) = frame.find_marker(tolerance).ok_or(ReadFault::NoMarker)?;
+    frame.fetch(Bit::from(way), run);
+    if let Some(row) = check(code, run)? {
+        return Err(ReadFault::Fails(row));
     }
+    gather(run, message);
+    Ok((way, distance))
 }

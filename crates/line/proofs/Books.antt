@@ -2,7 +2,7 @@
 use Rattle.std.proofs.Common.{◌≡◌, ℕ, zero, suc, ◌+◌, ◌-◌, ◌*◌, ◌^◌, ◌<◌, ◌≤◌, cond, eqb, ltb, List, [], ◌∷◌, ◌++◌, length, get_or, Some, None, sym, ◌∙◌, ap₂, inl, inr, suc-mul, arith}
 use Rattle.std.proofs.lemmas.Nat.{mul-le}
 use Rattle.std.proofs.lemmas.Bool.{cases_Bool, cond-true, cond-false, le-ltb, ltb-true, ltb-false, eqb-true, eq-eqb}
-use Rattle.element.specs.declared.Bit.{Bit}
+use Rattle.element.specs.declared.bits.Bit.{Bit}
 use Rattle.qc.specs.Shape.{whole}
 use Rattle.ar4ja.specs.declared.codes.Code.{Code}
 use Rattle.ar4ja.specs.Codes.{shape_of}

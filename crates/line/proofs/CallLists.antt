@@ -1,43 +1,9 @@
--- One call, as the book gives it; and a list of calls, one call on.
+-- A list of calls, one call on.
 use Rattle.std.proofs.Common.{◌≡◌, ℕ, ◌+◌, ◌<◌, List, [], ◌∷◌, ◌++◌, map, length, get_or, take, drop, set, sym, refl, ap, ◌∙◌, ap₂, arith}
 use Rattle.std.proofs.lemmas.List.{get_or-drop, drop-set-lt, drop-drop, take_more, take_more_set, map_push}
-use Rattle.refusal.specs.Outcome.{Outcome}
-use Rattle.element.specs.declared.Bit.{Bit}
-use Rattle.line.specs.declared.call.Ask.{Ask}
-use Rattle.line.specs.declared.call.Ask.TheVariants as ask
 use Rattle.line.specs.declared.call.Call.{Call}
-use Rattle.line.specs.Book.{Book, send_answer, send_run, send_book, read_back_answer, read_back_message, read_back_run}
-use Rattle.line.specs.Calls.{Told, Told.sent, Told.read_back, Entry, seen, served, served_as, turned, turned_as, served_calls, book_after}
-
-abbrev entry : Ask → List ℕ → List Bit → Told → Entry
-entry a m r w = record { ask = a; message = m; run = r; answer = w }
-
--- a send, with the buffers that it had and those after it
-pub served_send : (b : Book) (e : Entry) (m : List ℕ) (run run₁ run₂ : List Bit) (r : Outcome Unit)
-    → e.ask ≡ ask.Send → m ≡ e.message → run ≡ e.run → r ≡ send_answer b m run → run₁ ≡ send_run b m run → run₂ ≡ run₁
-    → entry e.ask e.message run₂ (sent r) ≡ served b e
-served_send b e m run run₁ run₂ r is em er a u v =
-    let answer : r ≡ send_answer b e.message e.run = a ∙ ap₂ (send_answer b) em er in
-    let buffer : run₂ ≡ send_run b e.message e.run = v ∙ u ∙ ap₂ (send_run b) em er in
-    ap₂ (λ (z : List Bit) (w : Outcome Unit). entry e.ask e.message z (sent w)) buffer answer ∙ ap (served_as b e) (sym is)
-
-pub turned_send : (b : Book) (e : Entry) (m : List ℕ) (run : List Bit) → e.ask ≡ ask.Send → m ≡ e.message → run ≡ e.run → send_book b m run ≡ turned b e
-turned_send b e m run is em er = ap₂ (send_book b) em er ∙ ap (turned_as b e) (sym is)
-
--- a read-back, likewise
-pub served_read : (b : Book) (e : Entry) (k : ℕ) (m m₁ m₂ : List ℕ) (run run₁ run₂ : List Bit) (r : Outcome Unit)
-    → e.ask ≡ ask.ReadBack k → m ≡ e.message → run ≡ e.run → r ≡ read_back_answer b k m run → m₁ ≡ read_back_message b k m run → run₁ ≡ read_back_run b k m run → m₂ ≡ m₁ → run₂ ≡ run₁
-    → entry e.ask m₂ run₂ (read_back r) ≡ served b e
-served_read b e k m m₁ m₂ run run₁ run₂ r is em er a um ur vm vr =
-    let answer : r ≡ read_back_answer b k e.message e.run = a ∙ ap₂ (read_back_answer b k) em er in
-    let message : m₂ ≡ read_back_message b k e.message e.run = vm ∙ um ∙ ap₂ (read_back_message b k) em er in
-    let buffer : run₂ ≡ read_back_run b k e.message e.run = vr ∙ ur ∙ ap₂ (read_back_run b k) em er in
-    ap₂ (λ (y : List ℕ) (z : List Bit). entry e.ask y z (read_back r)) message buffer
-    ∙ ap (λ (w : Outcome Unit). entry e.ask (read_back_message b k e.message e.run) (read_back_run b k e.message e.run) (read_back w)) answer
-    ∙ ap (served_as b e) (sym is)
-
-pub turned_read : (b : Book) (e : Entry) (k : ℕ) → e.ask ≡ ask.ReadBack k → b ≡ turned b e
-turned_read b e k is = ap (turned_as b e) (sym is)
+use Rattle.line.specs.Book.{Book}
+use Rattle.line.specs.Calls.{Entry, seen, served, turned, served_calls, book_after}
 
 -- one call more
 served_push : (b : Book) (es : List Entry) (e : Entry)

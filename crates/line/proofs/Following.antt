@@ -1,9 +1,10 @@
 -- A line that follows a book still does so after a send, refused or done.
 use Rattle.std.proofs.Common.{◌≡◌, ℕ, ◌+◌, ◌-◌, min, List, ◌++◌, length, Some, None, Option, sym, ap, ◌∙◌, subst, ap₂}
 use Rattle.std.proofs.lemmas.List.{length_push}
-use Rattle.element.specs.declared.Bit.{Bit}
+use Rattle.element.specs.declared.bits.Bit.{Bit}
 use Rattle.ar4ja.specs.declared.codes.Code.{Code}
-use Rattle.outlet.specs.declared.randomizing.Randomizer.{Randomizer}
+use Rattle.outlet.specs.declared.randomizing.Randomization.{Randomization}
+use Rattle.outlet.specs.declared.layer.Masked.{Masked}
 use Rattle.outlet.specs.Masks.{masked, randomizing}
 use Rattle.line.specs.declared.line_type.Line.{Line}
 use Rattle.line.specs.declared.faults.SendFault.{SendFault}
@@ -34,14 +35,14 @@ module _ {C O : Type 0} (bits : O → List Bit) (room : O → ℕ) (b : Book) (l
       })
 
   -- the randomizer took the marker and the block
-  pub sent_follows : (r : Randomizer O) (n : ℕ) → None ≡ due_to_send b m run → Message b.code m → n ≡ l.done + 1
-      → r.start ≡ l.randomizer.start → r.code ≡ l.randomizer.code → room r.below ≡ room l.randomizer.below
-      → masked (randomizing r.start r.code) (bits r.below) ≡ (masked (randomizing l.randomizer.start l.randomizer.code) (bits l.randomizer.below) ++ marker) ++ block l.code m
+  pub sent_follows : (r : Masked Randomization O) (n : ℕ) → None ≡ due_to_send b m run → Message b.code m → n ≡ l.done + 1
+      → r.mask ≡ l.randomizer.mask → room r.below ≡ room l.randomizer.below
+      → masked (randomizing r.mask.start r.mask.code) (bits r.below) ≡ (masked (randomizing l.randomizer.mask.start l.randomizer.mask.code) (bits l.randomizer.below) ++ marker) ++ block l.code m
       → Follows bits room (send_book b m run) (record { code = l.code; coder = l.coder; randomizer = r; done = n; refused = l.refused })
-  sent_follows r n nothing is more start code full taken =
+  sent_follows r n nothing is more same full taken =
       let l' : Line C O = record { code = l.code; coder = l.coder; randomizer = r; done = n; refused = l.refused } in
-      let start' = start ∙ f.randomized_from in
-      let code' = code ∙ f.frames_are in
+      let start' = ap (λ (z : Randomization). z.start) same ∙ f.randomized_from in
+      let code' = ap (λ (z : Randomization). z.code) same ∙ f.frames_are in
       subst (λ (z : Option SendFault). Follows bits room (book_by b m z) l') nothing (record {
         code_is = f.code_is;
         frames_are = code';

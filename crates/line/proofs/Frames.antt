@@ -6,8 +6,8 @@ use Rattle.std.proofs.lemmas.Nat.{mod-mul-add}
 use Rattle.std.proofs.lemmas.List.FromFn.{length-map-range_with_len, get_or-map-range_with_len}
 use Rattle.std.proofs.lemmas.List.{flat_map_more, get_or_append_left, get_or-append_right}
 use Rattle.std.proofs.lemmas.Bool.{cond-true, cond-false, lt-ltb, le-ltb}
-use Rattle.element.specs.declared.Bit.{Bit}
-use Rattle.element.specs.declared.Bit.TheVariants.{Zero}
+use Rattle.element.specs.declared.bits.Bit.{Bit}
+use Rattle.element.specs.declared.bits.Bit.TheVariants.{Zero}
 use Rattle.element.specs.Bits.{bit_plus}
 use Rattle.qc.specs.Shape.{sent}
 use Rattle.ar4ja.specs.declared.codes.Code.{Code}

@@ -3,14 +3,14 @@ use Rattle.std.proofs.Common.{◌≡◌, ℕ, ◌+◌, ◌*◌, ◌/◌, ◌%◌
 use Rattle.std.proofs.lemmas.Nat.{div-mul-add, mod-mul-add}
 use Rattle.std.proofs.lemmas.List.FromFn.{length-map-range_with_len, get_or-map-range_with_len}
 use Rattle.std.proofs.lemmas.List.{get_or_append_left, ext_get_or}
-use Rattle.element.specs.declared.Bit.{Bit}
-use Rattle.element.specs.declared.Bit.TheVariants.{Zero}
+use Rattle.element.specs.declared.bits.Bit.{Bit}
+use Rattle.element.specs.declared.bits.Bit.TheVariants.{Zero}
 use Rattle.qc.specs.Shape.{whole}
 use Rattle.ar4ja.specs.declared.codes.Code.{Code}
 use Rattle.ar4ja.specs.Codes.{shape_of}
 use Rattle.outlet.specs.Bytes.{bit_of, pack}
 use Rattle.outlet.specs.Packing.{place_bit}
-use Rattle.outlet.proofs.Digits.{pack_same}
+use Rattle.outlet.specs.PackedLaws.{pack_same}
 use Rattle.outlet.proofs.Tested.{from_all}
 use Rattle.frame.specs.Message.{message_len, message_byte, message_bytes}
 use Rattle.line.specs.Frames.{message_bits, whole_block, block_in}

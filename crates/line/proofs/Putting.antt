@@ -1,7 +1,7 @@
 -- Bits put into an outlet one after the other, while there is room.
 use Rattle.std.proofs.Common.{◌≡◌, ℕ, ◌+◌, ◌<◌, leb, List, [], ◌∷◌, ◌++◌, length, ap, ◌∙◌, append_assoc, arith, length-append}
 use Rattle.std.proofs.lemmas.Bool.{cond-true, le-leb}
-use Rattle.element.specs.declared.Bit.{Bit}
+use Rattle.element.specs.declared.bits.Bit.{Bit}
 use Rattle.outlet.specs.Meaning.{taken}
 
 -- one bit more behind those put since the outlet held `base`

@@ -1,7 +1,7 @@
 -- What the book gives for a list of calls.
-use Rattle.std.specs.Prelude.{ℕ, List, [], ◌∷◌, length, vec_items}
+use Rattle.std.specs.Prelude.{ℕ, List, [], ◌∷◌, length, Some, None, Option, vec_items}
 use Rattle.refusal.specs.Outcome.{Outcome, outcome}
-use Rattle.element.specs.declared.Bit.{Bit}
+use Rattle.element.specs.declared.bits.Bit.{Bit}
 use Rattle.line.specs.declared.call.Ask.{Ask}
 use Rattle.line.specs.declared.call.Ask.TheVariants as ask
 use Rattle.line.specs.declared.call.Answer.{Answer}
@@ -10,18 +10,18 @@ use Rattle.line.specs.declared.call.Call.{Call}
 use Rattle.line.specs.Refusals.{send_fault, read_back_fault}
 use Rattle.line.specs.Book.{Book, send_answer, send_run, send_book, read_back_answer, read_back_message, read_back_run}
 
--- an answer, with its refusal told by number
+-- an answer, with its refusal told by number; nothing before it is asked
 pub data Told : Type 0 where
   nothing : Told
   sent : Outcome Unit → Told
   read_back : Outcome Unit → Told
   counts : ℕ → ℕ → Told
 
-abbrev pub told : Answer → Told
-told answer.Nothing = nothing
-told (answer.Sent r) = sent (outcome send_fault r)
-told (answer.ReadBack r) = read_back (outcome read_back_fault r)
-told (answer.Counts d r) = counts d r
+abbrev pub told : Option Answer → Told
+told None = nothing
+told (Some (answer.Sent r)) = sent (outcome send_fault r)
+told (Some (answer.ReadBack r)) = read_back (outcome read_back_fault r)
+told (Some (answer.Counts d r)) = counts d r
 
 -- a call by what is asked, what its buffers hold, and what was answered
 pub record Entry : Type 0 where

@@ -1,7 +1,7 @@
 -- That a line stands as a book says, and what its calls then do.
 use Rattle.std.specs.Prelude.{◌≡◌, ℕ, ◌<◌, List, [], length, Result, slice_index, slice_index_or}
 use Rattle.refusal.specs.Outcome.{outcome}
-use Rattle.element.specs.declared.Bit.{Bit}
+use Rattle.element.specs.declared.bits.Bit.{Bit}
 use Rattle.ar4ja.specs.declared.codes.Code.{Code}
 use Rattle.frame.specs.Message.{message_len}
 use Rattle.line.specs.declared.line_type.Line.{Line}
@@ -18,8 +18,8 @@ pub record Message (code : Code) (m : List ℕ) : Type 0 where
 module _ {C O : Type 0} (bits : O → List Bit) (room : O → ℕ) where
   pub record Follows (b : Book) (l : Line C O) : Type 0 where
     pub code_is : l.code ≡ b.code
-    pub frames_are : l.randomizer.code ≡ b.code
-    pub randomized_from : l.randomizer.start ≡ length b.opening
+    pub frames_are : l.randomizer.mask.code ≡ b.code
+    pub randomized_from : l.randomizer.mask.start ≡ length b.opening
     pub done_is : l.done ≡ length b.messages
     pub refused_is : l.refused ≡ b.refused
     pub bits_are : bits l.randomizer.below ≡ written b

@@ -1,8 +1,8 @@
 -- The frame of a message: the attached sync marker, then the sent bits of its block, randomized.
 use Rattle.std.specs.Prelude.{◌≡◌, ℕ, ◌*◌, ◌<◌, List, ◌++◌, map, length, take, drop, replicate, slice_index_or}
 use Rattle.std.specs.List.{range_with_len}
-use Rattle.element.specs.declared.Bit.{Bit}
-use Rattle.element.specs.declared.Bit.TheVariants.{Zero}
+use Rattle.element.specs.declared.bits.Bit.{Bit}
+use Rattle.element.specs.declared.bits.Bit.TheVariants.{Zero}
 use Rattle.element.specs.Bits.{bit_plus}
 use Rattle.qc.specs.Shape.{M, sent, whole}
 use Rattle.qc.specs.Codeblock.{groups, AllZero}

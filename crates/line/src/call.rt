@@ -14,8 +14,6 @@ pub enum Ask {
 // What it answered.
 #[derive(Drop)]
 pub enum Answer {
-    // It was not asked yet.
-    Nothing,
     Sent(Result<(), SendFault>),
     ReadBack(Result<(), ReadBackFault>),
     // The done sends and the refused ones.
@@ -27,5 +25,6 @@ pub struct Call {
     pub ask: Ask,
     pub message: Vec<u8>,
     pub run: Vec<Bit>,
-    pub answer: Answer,
+    // None until it is asked.
+    pub answer: Option<Answer>,
 }

@@ -2,6 +2,7 @@
 ghost use Rattle.std.specs.Prelude.{◌≡◌, ℕ, List, length};
 ghost use Rattle.ar4ja.specs.declared.codes.Code.{Code};
 ghost use Rattle.line.specs.Frames.{WholeBlock, whole_block};
+ghost use Rattle.refusal.specs.Outcome.{unless};
 ghost use Rattle.line.specs.Book.{Book, opened, send_due, read_back_due};
 ghost use Rattle.line.specs.Follow.{Follows, Sends, ReadsBack};
 
@@ -12,44 +13,45 @@ use ar4ja::Code;
 use element::Bit;
 use frame::{message_len, read};
 use outlet::{Outlet, Randomizer};
-use qc::Coder;
+use qc::{Coder, QuasiCyclic};
 
 // The first reason not to send a message, with so many places left.
-fn send_due(code: Code, left: usize, message: usize, run: usize) -> Option<SendFault>
-    ensures { result ≡ send_due code left message run }
+fn send_due(code: Code, left: usize, message: usize, run: usize) -> Result<(), SendFault>
+    ensures { result ≡ unless (send_due code left message run) }
 {
     if message != message_len(code) {
-        return Some(SendFault::MessageLength);
+        return Err(SendFault::MessageLength);
     }
     if run < code.whole_len() {
-        return Some(SendFault::RunTooShort);
+        return Err(SendFault::RunTooShort);
     }
     if left < code.frame_len() {
-        return Some(SendFault::NoRoom);
+        return Err(SendFault::NoRoom);
     }
-    None
+    Ok(())
 }
 
-// The first reason not to read a frame back, with so many sent.
+// The first reason not to read a frame back, with so many sent. It shares the lengths alone with `send_due`:
+// a test of these for both, with a fault and two conversions of its own, is no shorter.
 fn read_back_due(
     code: Code,
     done: usize,
     frame: usize,
     message: usize,
     run: usize,
-) -> Option<ReadBackFault>
-    ensures { result ≡ read_back_due code done frame message run }
+) -> Result<(), ReadBackFault>
+    ensures { result ≡ unless (read_back_due code done frame message run) }
 {
     if frame >= done {
-        return Some(ReadBackFault::NoSuchFrame);
+        return Err(ReadBackFault::NoSuchFrame);
     }
     if message != message_len(code) {
-        return Some(ReadBackFault::MessageLength);
+        return Err(ReadBackFault::MessageLength);
     }
     if run < code.whole_len() {
-        return Some(ReadBackFault::RunTooShort);
+        return Err(ReadBackFault::RunTooShort);
     }
-    None
+    Ok(())
 }
 
 impl<C: Coder, O: Outlet> Line<C, O> {
@@ -81,11 +83,12 @@ impl<C: Coder, O: Outlet> Line<C, O> {
         ensures kept { O.kept self.old.randomizer.below self.new.randomizer.below }
     {
         let left = self.randomizer.capacity() - self.randomizer.held();
-        if let Some(fault) = send_due(self.code, left, message.len(), run.len()) {
+        if let Err(fault) = send_due(self.code, left, message.len(), run.len()) {
             self.refused = self.refused.saturating_add(1);
             return Err(fault);
         }
         spread(message, run);
+        // The run is long enough, so this is done.
         let _ = self.coder.encode(self.code, run);
         put_marker(&mut self.randomizer);
         put_bits(&mut self.randomizer, &run[0..self.code.block_len()]);
@@ -103,9 +106,7 @@ impl<C: Coder, O: Outlet> Line<C, O> {
     ) -> Result<(), ReadBackFault>
         ensures { (b : Book) → Follows O.bits O.room b self.now → ReadsBack frame message.old run.old result message.new run.new b }
     {
-        if let Some(fault) = read_back_due(self.code, self.done, frame, message.len(), run.len()) {
-            return Err(fault);
-        }
+        read_back_due(self.code, self.done, frame, message.len(), run.len())?;
         let back = (self.done - frame).saturating_mul(self.code.frame_len());
         let place = self.randomizer.held().saturating_sub(back);
         let _ = read(self.randomizer.below(), place, self.code, 0, message, run);

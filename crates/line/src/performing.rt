@@ -17,24 +17,17 @@ fn serve<C: Coder, O: Outlet>(line: &mut Line<C, O>, call: &mut Call)
     ensures book { (b : Book) → Follows O.bits O.room b line.old → Follows O.bits O.room (turned b (seen call.old)) line.new }
     ensures kept { O.kept line.old.randomizer.below line.new.randomizer.below }
 {
-    match call.ask {
-        Ask::Send => {
-            let answer = line.send(call.message.as_slice(), call.run.as_mut_slice());
-            call.answer = Answer::Sent(answer);
-        }
+    let answer = match call.ask {
+        Ask::Send => Answer::Sent(line.send(&call.message, &mut call.run)),
         Ask::ReadBack(frame) => {
-            let answer = line.read_back(
-                frame,
-                call.message.as_mut_slice(),
-                call.run.as_mut_slice(),
-            );
-            call.answer = Answer::ReadBack(answer);
+            Answer::ReadBack(line.read_back(frame, &mut call.message, &mut call.run))
         }
         Ask::Counts => {
             let (done, refused) = line.counts();
-            call.answer = Answer::Counts(done, refused);
+            Answer::Counts(done, refused)
         }
-    }
+    };
+    call.answer = Some(answer);
 }
 
 // Opens a line over the outlet, puts the calls to it one after the other, and hands the outlet back.
@@ -45,8 +38,8 @@ pub fn perform<C: Coder + Drop, O: Outlet>(code: Code, coder: C, outlet: O, call
     ensures kept { O.kept outlet result }
 {
     let mut line = Line::open(code, coder, outlet);
-    for i in 0..calls.len() {
-        serve(&mut line, &mut calls[i]);
+    for call in calls.iter_mut() {
+        serve(&mut line, call);
     }
     line.into_outlet()
 }

@@ -12,17 +12,19 @@ pub(crate) fn spread(message: &[u8], run: &mut [Bit])
     requires { 8 * length message.now ≤ length run.old }
     ensures { run.new ≡ packed_bits message.now (8 * length message.now) ++ drop (8 * length message.now) run.old }
 {
-    for i in 0..8 * message.len() {
-        run[i] = byte_bit(message[i / 8], i % 8);
+    let front = &mut run[..8 * message.len()];
+    for (i, b) in front.iter_mut().enumerate() {
+        *b = byte_bit(message[i / 8], i % 8);
     }
 }
 
-// Gives the outlet the marker.
+// Gives the outlet the marker, whose bits are worked out one by one and stand in no slice.
 pub(crate) fn put_marker<O: Outlet>(out: &mut O)
     requires { length (O.bits out.old) + 64 ≤ O.room out.old }
     ensures bits { O.bits out.new ≡ O.bits out.old ++ marker }
     ensures kept { O.kept out.old out.new }
 {
+    // There is room, so each bit is taken.
     for i in 0..MARKER_LEN {
         let _ = out.take(marker_bit(i));
     }
@@ -34,6 +36,7 @@ pub(crate) fn put_bits<O: Outlet>(out: &mut O, run: &[Bit])
     ensures bits { O.bits out.new ≡ O.bits out.old ++ run.now }
     ensures kept { O.kept out.old out.new }
 {
+    // There is room, so each bit is taken.
     for b in run {
         let _ = out.take(*b);
     }

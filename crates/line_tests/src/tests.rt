@@ -4,17 +4,15 @@ use element::Bit;
 use frame::{Orientation, ReadFault, read};
 use line::{Line, ReadBackFault, SendFault};
 use outlet::{Levels, Outlet, Packed};
-use qc::{CheckCoder, TableCoder};
+use qc::{CheckCoder, QuasiCyclic, TableCoder};
 use std::alloc::{AllocError, Global};
 use std::test::Fail;
 
-const CODES: [Code; 3] = [Code::Half1024, Code::TwoThirds1024, Code::FourFifths1024];
-
-// A message whose bytes count up from one.
+// A message whose bytes count up from the first.
 fn message(first: u8) -> [u8; 128] {
     let mut bytes = [first; 128];
-    for i in 0..128 {
-        bytes[i] = first.wrapping_add(i as u8);
+    for (i, byte) in bytes.iter_mut().enumerate() {
+        *byte = first.wrapping_add(i as u8);
     }
     bytes
 }
@@ -35,15 +33,15 @@ fn frame_bytes(heap: Global, code: Code, first: u8) -> Result<Vec<u8>, AllocErro
 // Adds one to so many bits from the first on.
 fn flip(bytes: &mut [u8], count: usize) {
     for i in 0..count {
-        if i / 8 < bytes.len() {
-            bytes[i / 8] ^= 128u8 >> (i % 8);
+        if let Some(byte) = bytes.get_mut(i / 8) {
+            *byte ^= 128u8 >> (i % 8);
         }
     }
 }
 
 #[test]
 fn room_for_one_frame(rt: HostRuntime) -> Result<(), Fail> {
-    for code in CODES {
+    for code in Code::ALL {
         let size = code.frame_len();
         for (places, sends) in [
             (size - 1, 0usize),
@@ -94,7 +92,7 @@ fn read_bytes(
 
 #[test]
 fn marker_errors(rt: HostRuntime) -> Result<(), Fail> {
-    for code in CODES {
+    for code in Code::ALL {
         for (errors, tolerance) in [(0, 0), (15, 15), (16, 15), (15, 14)] {
             let mut bytes = frame_bytes(rt.alloc(), code, 9)?;
             flip(&mut bytes, errors as usize);
@@ -114,7 +112,7 @@ fn marker_errors(rt: HostRuntime) -> Result<(), Fail> {
 
 #[test]
 fn complemented_with_marker_errors(rt: HostRuntime) -> Result<(), Fail> {
-    for code in CODES {
+    for code in Code::ALL {
         let mut bytes = frame_bytes(rt.alloc(), code, 200)?;
         flip(&mut bytes, code.frame_len());
         flip(&mut bytes, 15);
@@ -128,16 +126,17 @@ fn complemented_with_marker_errors(rt: HostRuntime) -> Result<(), Fail> {
 
 #[test]
 fn damaged_block(rt: HostRuntime) -> Result<(), Fail> {
-    for code in CODES {
+    for code in Code::ALL {
         for place in [64, code.frame_len() - 1] {
             let mut bytes = frame_bytes(rt.alloc(), code, 1)?;
             flip(&mut bytes, place);
             flip(&mut bytes, place + 1);
             let mut read = [5u8; 128];
-            match read_bytes(rt.alloc(), code, bytes, 0, 15, &mut read[..])? {
-                Err(ReadFault::Fails(row)) => assert!(rt; row < 3 * code.group_len()),
-                _ => return Err(Fail::new("a damaged block was read")),
-            }
+            let answer = read_bytes(rt.alloc(), code, bytes, 0, 15, &mut read[..])?;
+            let Err(ReadFault::Fails(row)) = answer else {
+                return Err(Fail::new("a damaged block was read"));
+            };
+            assert!(rt; row < 3 * code.group_len());
             assert!(rt; read[..] == [5u8; 128][..]);
         }
     }
@@ -146,7 +145,7 @@ fn damaged_block(rt: HostRuntime) -> Result<(), Fail> {
 
 #[test]
 fn places_too_far(rt: HostRuntime) -> Result<(), Fail> {
-    for code in CODES {
+    for code in Code::ALL {
         for place in [
             1,
             code.frame_len(),

@@ -3,12 +3,13 @@
 #![tactic(auto)]
 
 ghost use Rattle.std.specs.Prelude.{◌≡◌, true, length};
-ghost use Rattle.element.specs.declared.Bit.TheVariants.{Zero};
+ghost use Rattle.element.specs.declared.bits.Bit.TheVariants.{Zero};
 ghost use Rattle.element.specs.Bits.{bit_plus};
 ghost use Rattle.qc.specs.Coding.{ZeroBlock};
 ghost use Rattle.ar4ja.specs.declared.codes.Code.{Code};
 ghost use Rattle.ar4ja.specs.Codes.{shape_of, tables_of};
-ghost use Rattle.worked.specs.Worked.{worked, all_agree};
+ghost use Rattle.ar4ja.specs.Worked.{all_agree};
+ghost use Rattle.worked.specs.Worked.{worked};
 
 // How many worked values there are. The definitions give each of them, by one computed test of the whole
 // list; and in each code a message of zeros has a block of zeros.

@@ -5,13 +5,14 @@ use Rattle.qc.proofs.Soundness.{sounds}
 use Rattle.qc.proofs.Tabulated.{tables_hold}
 use Rattle.ar4ja.specs.Codes.{shape_of, shapes_sound, tables_of, tables_ruled}
 use Rattle.ar4ja.specs.Permutations.{half_1024, two_thirds_1024, four_fifths_1024}
-use Rattle.outlet.specs.Sequence.{s}
+use Rattle.ar4ja.specs.Worked.{worked as of_codes}
+use Rattle.outlet.specs.Sequence.{s, byte_from}
 use Rattle.frame.specs.Marker.{mark, marker_word}
 use Rattle.worked.specs.Worked.{worked}
 use Rattle.worked.proofs.worked_values.Goals as goal
 
 pub returns : goal.returns
-unfolding worked half_1024 two_thirds_1024 four_fifths_1024 s mark marker_word
+unfolding worked of_codes byte_from half_1024 two_thirds_1024 four_fifths_1024 s mark marker_word
 returns c = record {
   count = refl;
   agree = refl;

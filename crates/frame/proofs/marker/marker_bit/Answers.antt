@@ -1,21 +1,21 @@
-use Rattle.std.proofs.Common.{◌-◌, ◌/◌, ◌%◌, ◌^◌, eqb, sym, ◌∙◌}
-use Rattle.std.proofs.lemmas.Bool.{cond-true, cond-false, lt-ltb, le-ltb, eq-eqb, ne_eqb}
-use Rattle.element.specs.declared.Bit.TheVariants.{Zero, One}
+use Rattle.std.proofs.Common.{◌-◌, ◌/◌, ◌%◌, ◌^◌, eqb, sym, ap, ◌∙◌}
+use Rattle.std.proofs.lemmas.Bool.{cond-true, cond-false, lt-ltb, le-ltb}
+use Rattle.element.specs.declared.bits.Bit.TheVariants.{Zero}
+use Rattle.element.specs.Bits.{bit_if}
 use Rattle.frame.specs.Marker.{mark, marker_word}
+use Rattle.frame.proofs.Marks.{bit_unless}
 use Rattle.frame.proofs.marker.marker_bit.Goals as goal
+use Rattle.frame.proofs.marker.marker_bit.Goals.{then-i-lt-MARKER_LEN, else-i-lt-MARKER_LEN}
 
-pub returns-then-i-ge-MARKER_LEN : goal.returns-then-i-ge-MARKER_LEN
-unfolding mark
-returns-then-i-ge-MARKER_LEN c = sym (cond-false _ _ _ (le-ltb c.args.i 64 c.if-i-ge-MARKER_LEN.true))
-
-pub returns-then-i-eq0 : goal.returns-then-i-eq0
+pub returns : goal.returns
 unfolding mark marker_word
-returns-then-i-eq0 c =
-    sym (cond-true _ _ _ (lt-ltb c.args.i 64 c.if-i-ge-MARKER_LEN.false)
-    ∙ cond-true (eqb (marker_word / 2 ^ (63 - c.args.i) % 2) 0) Zero One (eq-eqb _ _ c.if-i-eq0.true))
-
-pub returns-else-i-eq0 : goal.returns-else-i-eq0
-unfolding mark marker_word
-returns-else-i-eq0 c =
-    sym (cond-true _ _ _ (lt-ltb c.args.i 64 c.if-i-ge-MARKER_LEN.false)
-    ∙ cond-false (eqb (marker_word / 2 ^ (63 - c.args.i) % 2) 0) Zero One (ne_eqb _ _ c.if-i-eq0.false))
+returns c =
+    let i = c.args.i in
+    c.from.ensures
+    ∙ elim c.if-i-lt-MARKER_LEN.branch [
+      | then-i-lt-MARKER_LEN w ↦ ap bit_if w.from-is ∙ bit_unless (eqb (marker_word / 2 ^ (63 - i) % 2) 0) ∙ sym (cond-true _ _ _ (lt-ltb i 64 w.if-i-lt-MARKER_LEN.true))
+      | else-i-lt-MARKER_LEN w ↦ (
+          let over = le-ltb i 64 w.if-i-lt-MARKER_LEN.false in
+          ap bit_if (w.from-is ∙ over) ∙ sym (cond-false _ _ Zero over)
+          )
+    ]

@@ -1,15 +1,11 @@
 use Rattle.std.proofs.Common.{◌≡◌, List, [], ◌∷◌, ◌++◌, map, sym, ap, ◌∙◌, arith}
 use Rattle.std.specs.List.{range_with_len}
-use Rattle.std.proofs.lemmas.List.{append-nil}
 use Rattle.std.proofs.lemmas.List.FromFn.{map-range_with_len_more, length-map-range_with_len}
-use Rattle.element.specs.declared.Bit.{Bit}
+use Rattle.element.specs.declared.bits.Bit.{Bit}
 use Rattle.frame.specs.Marker.{mark}
 use Rattle.line.specs.Frames.{marker}
 use Rattle.line.proofs.Putting.{put_more}
 use Rattle.line.proofs.sending.put_marker.Goals as goal
-
-pub loop-i-init : goal.loop-i-init
-loop-i-init g c = (sym (append-nil _), g.O.Outlet.lawful.reflexive _)
 
 pub loop-i-preserved : goal.loop-i-preserved
 loop-i-preserved g c =
@@ -24,12 +20,9 @@ loop-i-preserved g c =
       o.lawful.transitive _ _ _ inv.1 c.take.ensures.rest,
     )
 
-pub returns : goal.returns
+pub returns-clause-bits : goal.returns-clause-bits
 unfolding marker
-returns g c =
+returns-clause-bits g c =
     let o = g.O.Outlet in
     let all : c.loop-i.i ≡ 64 = omega arith in
-    record {
-      bits = c.loop-i.invariant.0 ∙ ap (λ n. o.bits c.args.out.now ++ map mark (range_with_len 0 n)) all;
-      kept = c.loop-i.invariant.1;
-    }
+    c.loop-i.invariant.0 ∙ ap (λ n. o.bits c.args.out.now ++ map mark (range_with_len 0 n)) all
