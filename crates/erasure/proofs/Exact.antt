@@ -1,10 +1,9 @@
 -- Each answer of a fill comes exactly when it is due.
 use Rattle.std.proofs.Common.{◌≡◌, ℕ, ◌<◌, ◌≤◌, ◌≢◌, ◌↔◌, List, length, sym, refl, ap, ◌∙◌, arith}
 use Rattle.refusal.specs.Outcome.{Outcome.done, Outcome.refused}
-use Rattle.element.specs.declared.Form.{Form}
+use Rattle.element.specs.declared.affine.Form.{Form}
 use Rattle.qc.specs.Shape.{Shape}
-use Rattle.erasure.specs.declared.marks.Mark.{Mark}
-use Rattle.erasure.specs.Marks.{erasures}
+use Rattle.erasure.specs.Marks.{Mark, erasures}
 use Rattle.erasure.specs.Fits.{NoneFits, OneFits, TwoFit}
 use Rattle.erasure.specs.declared.faults.FillFault.TheVariants as fault
 use Rattle.erasure.specs.Fill.{Answer, refusal, Sized, Fillable, Answers}

@@ -1,10 +1,10 @@
 -- Assignments of the unknowns that make all rows zero are the codeblocks that fit the marks.
-use Rattle.std.proofs.Common.{◌≡◌, ℕ, ◌+◌, ◌*◌, ◌<◌, ◌≤◌, List, map, length, get_or, sym, refl, ap, ◌∙◌, subst, mul_comm, arith}
+use Rattle.std.proofs.Common.{◌≡◌, ℕ, ◌+◌, ◌*◌, ◌<◌, ◌≤◌, Some, None, List, map, length, get_or, sym, refl, ap, ◌∙◌, subst, mul_comm, arith}
 use Rattle.std.proofs.lemmas.Nat.{mul-add-lt}
 use Rattle.std.proofs.lemmas.List.{length-map, get_or-map, ext_get_or}
-use Rattle.element.specs.declared.Bit.{Bit}
-use Rattle.element.specs.declared.Bit.TheVariants.{Zero, One}
-use Rattle.element.specs.declared.Form.{Form}
+use Rattle.element.specs.declared.bits.Bit.{Bit}
+use Rattle.element.specs.declared.bits.Bit.TheVariants.{Zero, One}
+use Rattle.element.specs.declared.affine.Form.{Form}
 use Rattle.element.specs.Bits.{bit_plus, bit_laws}
 use Rattle.element.specs.Forms.{form_zero, form_plus}
 use Rattle.qc.specs.Shape.{Shape, M, sent, whole}
@@ -12,13 +12,10 @@ use Rattle.qc.specs.Codeblock.{groups, Codeblock}
 use Rattle.qc.proofs.Soundness.{Sound}
 use Rattle.qc.proofs.Completion.{group_more}
 use Rattle.qc.proofs.Mapped.{mapped_codeblock, codeblock_mapped, codeblock_same}
-use Rattle.erasure.specs.declared.marks.Mark.{Mark}
-use Rattle.erasure.specs.declared.marks.Mark.TheVariants.{Erased}
-use Rattle.erasure.specs.declared.marks.Mark.TheVariants as mark
 use Rattle.erasure.specs.Unknowns.{member, value}
 use Rattle.erasure.specs.Demands.{RowsZero}
 use Rattle.erasure.specs.Solutions.{Only, Many}
-use Rattle.erasure.specs.Marks.{mark_at, known, rank, erasures, form_of, form_at, marked_forms, laid, written, filled_of, Marked}
+use Rattle.erasure.specs.Marks.{Mark, mark_at, rank, erasures, form_of, form_at, marked_forms, laid, written, filled_of, Marked}
 use Rattle.erasure.specs.Fits.{Agrees, Fits, NoneFits, OnlyFits, TwoFit, Open}
 use Rattle.erasure.proofs.Values.{value_keeps, value_ext}
 use Rattle.erasure.proofs.Assignments.{taken, taken_at, unknown_at, value_known, value_erased}
@@ -42,10 +39,10 @@ module _ (c : Shape) (ok : Sound c) (ms : List Mark) (size : length ms ≡ sent 
   block_at : (s : ℕ → Bit) (i : ℕ) → i < length ms → get_or (block s) i Zero ≡ value u s (form_at ms i)
   block_at s i h = get_or-map (value u s) (marked_forms ms) i form_zero Zero (omega (arith, marked_length ms)) ∙ ap (value u s) (marked_at ms i h)
 
-  block_known : (s : ℕ → Bit) (i : ℕ) (x : Bit) → i < length ms → mark_at ms i ≡ known x → get_or (block s) i Zero ≡ x
+  block_known : (s : ℕ → Bit) (i : ℕ) (x : Bit) → i < length ms → mark_at ms i ≡ Some x → get_or (block s) i Zero ≡ x
   block_known s i x h e = block_at s i h ∙ ap (λ m. value u s (form_of m (rank ms i))) e ∙ value_known u s x (rank ms i)
 
-  block_erased : (s : ℕ → Bit) (i : ℕ) → i < length ms → mark_at ms i ≡ Erased → get_or (block s) i Zero ≡ s (rank ms i)
+  block_erased : (s : ℕ → Bit) (i : ℕ) → i < length ms → mark_at ms i ≡ None → get_or (block s) i Zero ≡ s (rank ms i)
   block_erased s i h e = block_at s i h ∙ ap (λ m. value u s (form_of m (rank ms i))) e ∙ value_erased u s (rank ms i) (rank_lt ms i (length ms) h e)
 
   -- it is a codeblock exactly when the assignment makes the rows zero
@@ -76,9 +73,8 @@ module _ (c : Shape) (ok : Sound c) (ms : List Mark) (size : length ms ≡ sent 
   fits_under s z = record { long = block_length s; agrees = λ i h. go i h (mark_at ms i) refl; coded = rows_coded s z }
     where
       go : (i : ℕ) → i < length ms → (m : Mark) → mark_at ms i ≡ m → Agrees m (get_or (block s) i Zero)
-      go i h mark.Zero e = sym (block_known s i Zero h e)
-      go i h mark.One e = sym (block_known s i One h e)
-      go i h Erased e = tt
+      go i h (Some x) e = sym (block_known s i x h e)
+      go i h None e = tt
 
   -- the assignment that a block makes
   abbrev back : List Bit → ℕ → Bit
@@ -88,9 +84,8 @@ module _ (c : Shape) (ok : Sound c) (ms : List Mark) (size : length ms ≡ sent 
   back_block b agrees i h = go (mark_at ms i) refl (agrees i h)
     where
       go : (m : Mark) → mark_at ms i ≡ m → Agrees m (get_or b i Zero) → get_or (block (back b)) i Zero ≡ get_or b i Zero
-      go mark.Zero e a = block_known (back b) i Zero h e ∙ a
-      go mark.One e a = block_known (back b) i One h e ∙ a
-      go Erased e a = block_erased (back b) i h e ∙ taken_at ms (λ i. get_or b i Zero) (length ms) i h e
+      go (Some x) e a = block_known (back b) i x h e ∙ a
+      go None e a = block_erased (back b) i h e ∙ taken_at ms (λ i. get_or b i Zero) (length ms) i h e
 
   pub back_same : (b : List Bit) → Fits c ms b → block (back b) ≡ b
   back_same b f = ext_get_or Zero (block (back b)) b (block_length (back b) ∙ sym f.long) (λ i h. back_block b f.agrees i (omega (arith, block_length (back b))))
@@ -115,16 +110,15 @@ module _ (c : Shape) (ok : Sound c) (ms : List Mark) (size : length ms ≡ sent 
               block_at (back b) i l ∙ value_ext u (back b) given (form_at ms i) (one.only (back b) (rows_back b f)) ∙ sym (block_at given i l));
         }
 
-    pub filled_known : (vs : List Mark) → length vs ≡ length ms → ((i : ℕ) → i < length ms → mark_at vs i ≡ filled_of (mark_at ms i) (get_or bits (rank ms i) Zero)) → vs ≡ map known (block given)
+    pub filled_known : (vs : List Mark) → length vs ≡ length ms → ((i : ℕ) → i < length ms → mark_at vs i ≡ filled_of (mark_at ms i) (get_or bits (rank ms i) Zero)) → vs ≡ map Some (block given)
     filled_known vs same made =
-        ext_get_or mark.Zero vs (map known (block given)) (same ∙ sym (length-map (block given) known ∙ block_length given))
+        ext_get_or (Some Zero) vs (map Some (block given)) (same ∙ sym (length-map (block given) Some ∙ block_length given))
         (λ i h. let l : i < length ms = omega arith in
-        made i l ∙ go i l (mark_at ms i) refl ∙ sym (get_or-map known (block given) i Zero mark.Zero (omega (arith, block_length given))))
+        made i l ∙ go i l (mark_at ms i) refl ∙ sym (get_or-map Some (block given) i Zero (Some Zero) (omega (arith, block_length given))))
       where
-        go : (i : ℕ) → i < length ms → (m : Mark) → mark_at ms i ≡ m → filled_of m (get_or bits (rank ms i) Zero) ≡ known (get_or (block given) i Zero)
-        go i h mark.Zero e = ap known (sym (block_known given i Zero h e))
-        go i h mark.One e = ap known (sym (block_known given i One h e))
-        go i h Erased e = ap known (sym (block_erased given i h e))
+        go : (i : ℕ) → i < length ms → (m : Mark) → mark_at ms i ≡ m → filled_of m (get_or bits (rank ms i) Zero) ≡ Some (get_or (block given) i Zero)
+        go i h (Some x) e = ap Some (sym (block_known given i x h e))
+        go i h None e = ap Some (sym (block_erased given i h e))
 
   -- several assignments are left
   module _ (set : ℕ) (many : Many u Rows set) where
@@ -139,9 +133,8 @@ module _ (c : Shape) (ok : Sound c) (ms : List Mark) (size : length ms ≡ sent 
     open_marked i h (b, (other, (f, (g, ne)))) = go (mark_at ms i) refl (f.agrees i h) (g.agrees i h)
       where
         go : (m : Mark) → mark_at ms i ≡ m → Agrees m (get_or b i Zero) → Agrees m (get_or other i Zero) → Marked ms set i
-        go mark.Zero e a a' = absurd (ne (sym a ∙ a'))
-        go mark.One e a a' = absurd (ne (sym a ∙ a'))
-        go Erased e a a' = (e, side (member set (rank ms i)) refl)
+        go (Some x) e a a' = absurd (ne (sym a ∙ a'))
+        go None e a a' = (e, side (member set (rank ms i)) refl)
           where
             side : (w : Bit) → member set (rank ms i) ≡ w → member set (rank ms i) ≡ One
             side One q = q

@@ -1,9 +1,9 @@
 -- What inserting a form makes of the rows.
-use Rattle.std.proofs.Common.{◌≡◌, ℕ, ◌+◌, ◌<◌, Bool, true, false, List, length, set, sym, refl, ap, ◌∙◌, arith, below_more}
+use Rattle.std.proofs.Common.{◌≡◌, ℕ, ◌+◌, ◌<◌, true, false, List, length, set, sym, ap, ◌∙◌, arith, below_more}
 use Rattle.std.proofs.lemmas.List.{get_or-set_same, get_or-set_other}
-use Rattle.element.specs.declared.Bit.{Bit}
-use Rattle.element.specs.declared.Bit.TheVariants.{Zero, One}
-use Rattle.element.specs.declared.Form.{Form}
+use Rattle.element.specs.declared.bits.Bit.{Bit}
+use Rattle.element.specs.declared.bits.Bit.TheVariants.{Zero, One}
+use Rattle.element.specs.declared.affine.Form.{Form}
 use Rattle.element.specs.Bits.{bit_plus, bit_laws}
 use Rattle.element.specs.Forms.{form_zero}
 use Rattle.erasure.specs.Unknowns.{member, both, value, pivot, Solves, Reduced, Cleared, added}
@@ -17,25 +17,24 @@ pub pivoted : (u : ℕ) (t : List Form) (g : Form) (k : ℕ) (v : List Form) →
 pivoted u t g k v hk h =
     record { here = get_or-set_same v k g form_zero hk; there = λ p hp ne. get_or-set_other v k p g form_zero ne ∙ h p hp }
 
-module _ (u : ℕ) (t : List Form) (red : Reduced u t) (f g : Form) (so : Cleared u u t f g) where
-  pub inserted : (k : ℕ) → k < u → member g.unknowns k ≡ One → (v : List Form) → Pivoted u t g k v → Inserted u t f v true
-  inserted k hk o v pv =
-      record {
-        to = λ s z. (solves_old u t red f g so k hk o v pv s z, solves_form u t red f g so k hk o v pv s z);
-        from = λ s z. solves_new u t red f g so k hk o v pv s z.0 z.1;
-      }
+pub inserted : (u : ℕ) (t : List Form) → Reduced u t → (f g : Form) → Cleared u u t f g → (k : ℕ) → k < u → member g.unknowns k ≡ One
+    → (v : List Form) → Pivoted u t g k v → Inserted u t f v true
+inserted u t red f g so k hk o v pv =
+    record {
+      to = λ s z. (solves_old u t red f g so k hk o v pv s z, solves_form u t red f g so k hk o v pv s z);
+      from = λ s z. solves_new u t red f g so k hk o v pv s z.0 z.1;
+    }
 
-  -- a form with no unknowns left
-  pub spent : ((k : ℕ) → k < u → member g.unknowns k ≡ Zero) → (b : Bool) → (b ≡ true → g.bit ≡ Zero) → (g.bit ≡ Zero → b ≡ true) → Inserted u t f t b
-  spent none = go
-    where
-      plain : (s : ℕ → Bit) → value u s g ≡ g.bit
-      plain s = ap (bit_plus g.bit) (dot_none u (member g.unknowns) s (λ k h. ap (λ b. both b (s k)) (none k h))) ∙ right bit_laws g.bit
+-- a form with no unknowns left
+module _ (u : ℕ) (t : List Form) (f g : Form) (so : Cleared u u t f g) (none : (k : ℕ) → k < u → member g.unknowns k ≡ Zero) where
+  plain : (s : ℕ → Bit) → value u s g ≡ g.bit
+  plain s = ap (bit_plus g.bit) (dot_none u (member g.unknowns) s (λ k h. ap (λ b. both b (s k)) (none k h))) ∙ right bit_laws g.bit
 
-      go : (b : Bool) → (b ≡ true → g.bit ≡ Zero) → (g.bit ≡ Zero → b ≡ true) → Inserted u t f t b
-      go true y n =
-          record { to = λ s z. (z, sym (so.same s z) ∙ plain s ∙ y refl); from = λ s z. z.0 }
-      go false y n = λ s z fz. let e : false ≡ true = n (sym (plain s) ∙ so.same s z ∙ fz) in let z : ◌≡◌ {A = ℕ} 0 1 = cc in omega arith
+  pub spent : g.bit ≡ Zero → Inserted u t f t true
+  spent e = record { to = λ s z. (z, sym (so.same s z) ∙ plain s ∙ e); from = λ s z. z.0 }
+
+  pub unmet : (g.bit ≡ Zero → ⊥) → Inserted u t f t false
+  unmet ne = λ s z fz. ne (sym (plain s) ∙ so.same s z ∙ fz)
 
 -- one demand more than n
 pub adds_more : (u : ℕ) (t v w : List Form) (R : ℕ → (ℕ → Bit) → Type 0) (Q : (ℕ → Bit) → Type 0) (n k : ℕ)
@@ -53,7 +52,3 @@ pub zeros_more : (u : ℕ) (t v w fs : List Form) (n : ℕ) → Same (Solves u v
 zeros_more u t v w fs n a b =
     adds_more u t v w (Zeros u fs) (λ s. value u s (pivot fs n) ≡ Zero) n (n + 1)
     (λ s z e. below_more _ n z e) (λ s z. ((λ i h. z i (omega arith)), z n (omega arith))) a b
-
--- none yet
-pub zeros_none : (u : ℕ) (t : List Form) (R : (ℕ → Bit) → Type 0) → ((s : ℕ → Bit) → R s) → Same (Solves u t) (λ s. Solves u t s × R s)
-zeros_none u t R all = record { to = λ s z. (z, all s); from = λ s z. z.0 }

@@ -3,10 +3,9 @@ use Rattle.std.proofs.Common.{◌≡◌, ℕ, ◌+◌, ◌-◌, ◌<◌, ◌≤�
 use native.Mathlib.Decide.{dec_lt}
 use Rattle.std.proofs.lemmas.List.FromFn.{length-map-range_with_len, get_or-map-range_with_len}
 use Rattle.std.proofs.lemmas.List.{length-append, length-drop, get_or_append_left, get_or-append_right, get_or-drop, ext_get_or}
-use Rattle.element.specs.declared.Form.{Form}
+use Rattle.element.specs.declared.affine.Form.{Form}
 use Rattle.element.specs.Forms.{form_zero}
-use Rattle.erasure.specs.declared.marks.Mark.{Mark}
-use Rattle.erasure.specs.Marks.{form_at, marked_forms, laid}
+use Rattle.erasure.specs.Marks.{Mark, form_at, marked_forms, laid}
 
 module _ (ms : List Mark) where
   pub marked_length : length (marked_forms ms) ≡ length ms

@@ -2,10 +2,9 @@
 use Rattle.std.proofs.Common.{◌≡◌, ℕ, ◌+◌, ◌<◌, Bool, true, false, cond, eqb, leb, List, length, get_or, drop, sym, refl, ap, ◌∙◌, arith}
 use Rattle.std.proofs.lemmas.List.{length-drop, get_or-drop, ext_get_or}
 use Rattle.std.proofs.lemmas.Bool.{and_from, and_parts, eq-eqb, eqb-true, le-leb, leb-true}
-use Rattle.element.specs.declared.Form.{Form}
+use Rattle.element.specs.declared.affine.Form.{Form}
 use Rattle.qc.specs.Shape.{Shape, sent, whole}
-use Rattle.erasure.specs.declared.marks.Mark.{Mark}
-use Rattle.erasure.specs.Marks.{erasures, written, Marked}
+use Rattle.erasure.specs.Marks.{Mark, erasures, written, Marked}
 use Rattle.erasure.specs.Fits.{Open}
 use Rattle.erasure.specs.Fill.{Fillable, fillable, forms_after, PlacesAfter}
 use Rattle.erasure.specs.Places.{Places}

@@ -5,6 +5,7 @@ pub mod Repairing
 pub mod Inserting
 pub mod Reading
 pub mod Ranks
+pub mod Replacing
 pub mod Laying
 pub mod Assignments
 pub mod Fitting

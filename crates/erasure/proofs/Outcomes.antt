@@ -1,21 +1,21 @@
 -- The outcomes of a fill, from what its parts do.
-use Rattle.std.proofs.Common.{◌≡◌, ℕ, ◌*◌, ◌<◌, ◌≤◌, cond, List, length, get_or, sym, refl, ap, ◌∙◌, subst, arith}
+use Rattle.std.proofs.Common.{◌≡◌, ℕ, ◌*◌, ◌<◌, ◌≤◌, cond, Result, Ok, Err, List, length, get_or, sym, refl, ap, ◌∙◌, subst, arith}
 use Rattle.std.proofs.lemmas.Bool.{le-ltb}
-use Rattle.element.specs.declared.Bit.{Bit}
-use Rattle.element.specs.declared.Bit.TheVariants.{Zero}
-use Rattle.element.specs.declared.Form.{Form}
+use Rattle.element.specs.declared.bits.Bit.{Bit}
+use Rattle.element.specs.declared.bits.Bit.TheVariants.{Zero}
+use Rattle.element.specs.declared.affine.Form.{Form}
 use Rattle.element.specs.Forms.{form_zero, form_plus}
 use Rattle.refusal.specs.Outcome.{Outcome.done}
 use Rattle.qc.specs.Shape.{Shape, M, sent, whole}
 use Rattle.qc.specs.Codeblock.{completed}
 use Rattle.qc.specs.Check.{checked_run}
 use Rattle.qc.proofs.Soundness.{Sound}
-use Rattle.erasure.specs.declared.marks.Mark.{Mark}
+use Rattle.erasure.specs.declared.elimination.Contradiction.{Contradiction}
 use Rattle.erasure.specs.declared.solutions.Solutions.{Solutions}
-use Rattle.erasure.specs.declared.solutions.Solutions.TheVariants.{Absent, Single, Several}
+use Rattle.erasure.specs.declared.solutions.Solutions.TheVariants.{Single, Several}
 use Rattle.erasure.specs.Demands.{RowsZero}
 use Rattle.erasure.specs.Solutions.{Means}
-use Rattle.erasure.specs.Marks.{mark_at, rank, erasures, laid, written, filled_of, Marked}
+use Rattle.erasure.specs.Marks.{Mark, mark_at, rank, erasures, laid, written, filled_of, Marked}
 use Rattle.erasure.specs.Places.{Places}
 use Rattle.erasure.specs.declared.faults.FillFault.{FillFault}
 use Rattle.erasure.specs.declared.faults.FillFault.TheVariants as fault
@@ -51,14 +51,14 @@ module _ (c : Shape) (ok : Sound c) (ms : List Mark) (xs : List Form) (ws : List
       (le-ltb (length (laid ms xs)) (whole c) (omega (arith, able.sized.1, laid_length ms xs (room c ok ms able.sized.0 xs able.sized.1))))
 
   -- what the rows leave, said of the marks
-  moved : (v : Solutions) → Means u (RowsZero u c ys (2 * M c)) v → Means (erasures ms) (RowsZero (erasures ms) c (written c ms xs) (2 * M c)) v
+  moved : (v : Result Solutions Contradiction) → Means u (RowsZero u c ys (2 * M c)) v → Means (erasures ms) (RowsZero (erasures ms) c (written c ms xs) (2 * M c)) v
   moved v h =
       subst (λ (l : List Form). Means (erasures ms) (RowsZero (erasures ms) c l (2 * M c)) v) is_written
       (subst (λ (n : ℕ). Means n (RowsZero n c ys (2 * M c)) v) count h)
 
-  pub absent : Means u (RowsZero u c ys (2 * M c)) Absent → Done c ms ms xs ys ws ws (refusal fault.NoneFits)
-  absent h =
-      let none = none_fits c ok ms able.sized.0 xs able.sized.1 (moved Absent h) in
+  pub absent : (e : Contradiction) → Means u (RowsZero u c ys (2 * M c)) (Err e) → Done c ms ms xs ys ws ws (refusal fault.NoneFits)
+  absent e h =
+      let none = none_fits c ok ms able.sized.0 xs able.sized.1 (moved (Err e) h) in
       record {
         answer = none_answer c ms xs ws able none;
         marks = refl;
@@ -66,22 +66,22 @@ module _ (c : Shape) (ok : Sound c) (ms : List Mark) (xs : List Form) (ws : List
         places = none_listed c ms xs ws (λ _ i o. none o.0 o.1.1.0);
       }
 
-  pub single : (bits : List Bit) → Means u (RowsZero u c ys (2 * M c)) (Single bits) → (vs : List Mark) → length vs ≡ length ms
+  pub single : (bits : List Bit) → Means u (RowsZero u c ys (2 * M c)) (Ok (Single bits)) → (vs : List Mark) → length vs ≡ length ms
       → ((i : ℕ) → i < length ms → mark_at vs i ≡ filled_of (mark_at ms i) (get_or bits (rank ms i) Zero)) → Done c ms vs xs ys ws ws (done tt)
   single bits h vs long made =
-      let one = only_fits c ok ms able.sized.0 xs able.sized.1 bits (moved (Single bits) h) in
+      let one = only_fits c ok ms able.sized.0 xs able.sized.1 bits (moved (Ok (Single bits)) h) in
       record {
         answer = one_answer c ms xs ws able (_, one);
-        marks = (_, (one, filled_known c ok ms able.sized.0 xs able.sized.1 bits (moved (Single bits) h) vs long made));
+        marks = (_, (one, filled_known c ok ms able.sized.0 xs able.sized.1 bits (moved (Ok (Single bits)) h) vs long made));
         forms = is_written ∙ forms_written c ms xs ws able;
         places = none_listed c ms xs ws
             (λ _ i o. o.1.1.1.1 (ap (λ (l : List Bit). get_or l i Zero) (one.only o.0 o.1.1.0 ∙ sym (one.only o.1.0 o.1.1.1.0))));
       }
 
-  pub many : (set n : ℕ) → Means u (RowsZero u c ys (2 * M c)) (Several set) → (vs : List ℕ) → length vs ≡ length ws
+  pub many : (set n : ℕ) → Means u (RowsZero u c ys (2 * M c)) (Ok (Several set)) → (vs : List ℕ) → length vs ≡ length ws
       → Places (Marked ms set) (length ms) n ws vs → Done c ms ms xs ys ws vs (refusal (fault.SeveralFit n))
   many set n h vs long so =
-      let found = moved (Several set) h in
+      let found = moved (Ok (Several set)) h in
       record {
         answer = several_answer c ms xs ws able n (two_fit c ok ms able.sized.0 xs able.sized.1 set found);
         marks = refl;

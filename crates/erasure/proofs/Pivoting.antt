@@ -1,9 +1,9 @@
 -- One more form: taken apart by the rows, then substituted into them.
 use Rattle.std.proofs.Common.{◌≡◌, ℕ, ◌+◌, ◌<◌, ◌≢◌, ◌⊎◌, List, sym, refl, ap, ◌∙◌, ap₂, inl, inr, ⊎_elim, arith, below_more}
 use Rattle.std.proofs.lemmas.Bool.{cases_eq}
-use Rattle.element.specs.declared.Bit.{Bit}
-use Rattle.element.specs.declared.Bit.TheVariants.{Zero, One}
-use Rattle.element.specs.declared.Form.{Form}
+use Rattle.element.specs.declared.bits.Bit.{Bit}
+use Rattle.element.specs.declared.bits.Bit.TheVariants.{Zero, One}
+use Rattle.element.specs.declared.affine.Form.{Form}
 use Rattle.element.specs.Bits.{bit_plus, bit_laws}
 use Rattle.element.specs.Forms.{form_zero, form_plus}
 use Rattle.erasure.specs.Unknowns.{member, value, pivot, Solves, Reduced, Cleared, added}
@@ -16,9 +16,6 @@ pub either : (a b : Bit) → bit_plus a b ≡ One → (a ≡ One) ⊎ (b ≡ One
 either Zero Zero h = inl h
 either Zero One h = inr refl
 either One b h = inl refl
-
-pub none_cleared : (u : ℕ) (t : List Form) (f : Form) → Cleared u 0 t f f
-none_cleared u t f = record { same = λ s z. refl; clear = λ q h. absurd (omega arith) }
 
 module _ (u : ℕ) (t : List Form) (red : Reduced u t) (f g : Form) (p : ℕ) (hp : p < u) (so : Cleared u p t f g) where
   pub cleared_kept : member g.unknowns p ≡ Zero → Cleared u (p + 1) t f g

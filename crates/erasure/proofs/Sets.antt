@@ -4,8 +4,8 @@ use Rattle.std.proofs.lemmas.Bool.{cases_eq, cases_lt}
 use native.Mathlib.Nat.{zero-div, div-eq_of_lt}
 use lib.Bits.{bit_xor, bit_or, xor_shr, xor_mod, or_shr, or_mod}
 use lib.Pow.{pow-lt, shl-shr}
-use Rattle.element.specs.declared.Bit.{Bit}
-use Rattle.element.specs.declared.Bit.TheVariants.{Zero, One}
+use Rattle.element.specs.declared.bits.Bit.{Bit}
+use Rattle.element.specs.declared.bits.Bit.TheVariants.{Zero, One}
 use Rattle.element.specs.Bits.{bit_plus}
 use Rattle.erasure.specs.Unknowns.{odd, member}
 

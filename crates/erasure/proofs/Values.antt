@@ -1,8 +1,8 @@
 -- The value of a form under an assignment keeps zero and sums.
 use Rattle.std.proofs.Common.{◌≡◌, ℕ, zero, suc, ◌<◌, ◌≢◌, sym, refl, ap, ◌∙◌, ap₂, arith}
-use Rattle.element.specs.declared.Bit.{Bit}
-use Rattle.element.specs.declared.Bit.TheVariants.{Zero, One}
-use Rattle.element.specs.declared.Form.{Form}
+use Rattle.element.specs.declared.bits.Bit.{Bit}
+use Rattle.element.specs.declared.bits.Bit.TheVariants.{Zero, One}
+use Rattle.element.specs.declared.affine.Form.{Form}
 use Rattle.element.specs.Bits.{bit_plus, bit_laws}
 use Rattle.element.specs.Forms.{form_zero, form_plus}
 use Rattle.qc.specs.Keeps.{Keeps}
@@ -11,7 +11,7 @@ use Rattle.erasure.specs.Unknowns.{member, both, dot, value}
 use Rattle.erasure.proofs.Sets.{member_xor, member_zero}
 
 pub apart : Zero ≢ One
-apart e = let z : ◌≡◌ {A = ℕ} 0 1 = cc in omega arith
+apart e = cc
 
 pub both_plus_left : (a b x : Bit) → both (bit_plus a b) x ≡ bit_plus (both a x) (both b x)
 both_plus_left Zero Zero x = refl

@@ -1,14 +1,13 @@
 -- What a fill answers, and what it leaves in the marks, the work buffer and the list of places.
-use Rattle.std.specs.Prelude.{◌≡◌, ℕ, ◌<◌, ◌≤◌, Bool, cond, ◌&&◌, ◌≢◌, ◌↔◌, List, map, length, drop, ◌==◌, nat_le, slice_index}
-use Rattle.element.specs.declared.Bit.{Bit}
-use Rattle.element.specs.declared.Form.{Form}
+use Rattle.std.specs.Prelude.{◌≡◌, ℕ, ◌<◌, ◌≤◌, Bool, cond, ◌&&◌, ◌≢◌, ◌↔◌, Some, List, map, length, drop, ◌==◌, nat_le, slice_index}
+use Rattle.element.specs.declared.bits.Bit.{Bit}
+use Rattle.element.specs.declared.affine.Form.{Form}
 use Rattle.refusal.specs.Outcome.{Outcome, Outcome.done, Outcome.refused}
 use Rattle.qc.specs.Shape.{Shape, sent, whole}
-use Rattle.erasure.specs.declared.marks.Mark.{Mark}
 use Rattle.erasure.specs.declared.faults.FillFault.{FillFault}
 use Rattle.erasure.specs.declared.faults.FillFault.TheVariants as fault
 use Rattle.erasure.specs.Refusals.{fill_fault}
-use Rattle.erasure.specs.Marks.{known, erasures, written}
+use Rattle.erasure.specs.Marks.{Mark, erasures, written}
 use Rattle.erasure.specs.Fits.{NoneFits, OnlyFits, OneFits, TwoFit, Open}
 
 abbrev pub Answer : Type 0
@@ -47,7 +46,7 @@ pub record Answers (c : Shape) (ms : List Mark) (xs : List Form) (ws : List ℕ)
 
 -- done, the marks are the one codeblock that fits; refused, they are as they were
 abbrev pub MarksAfter : Shape → List Mark → List Mark → Answer → Type 0
-MarksAfter c ms vs (done x) = (b : List Bit) × (OnlyFits c ms b × (vs ≡ map known b))
+MarksAfter c ms vs (done x) = (b : List Bit) × (OnlyFits c ms b × (vs ≡ map Some b))
 MarksAfter c ms vs (refused f) = vs ≡ ms
 
 -- the work buffer holds the block as marked and its punctured group, unless the call was refused for its

@@ -1,20 +1,16 @@
 -- The codeblocks that fit a block with erased symbols.
-use Rattle.std.specs.Prelude.{◌≡◌, ℕ, ◌<◌, ◌≢◌, List, length, slice_index_or}
-use Rattle.element.specs.declared.Bit.{Bit}
-use Rattle.element.specs.declared.Bit.TheVariants.{Zero, One}
+use Rattle.std.specs.Prelude.{◌≡◌, ℕ, ◌<◌, ◌≢◌, Some, None, List, length, slice_index_or}
+use Rattle.element.specs.declared.bits.Bit.{Bit}
+use Rattle.element.specs.declared.bits.Bit.TheVariants.{Zero}
 use Rattle.element.specs.Bits.{bit_plus}
 use Rattle.qc.specs.Shape.{Shape, M}
 use Rattle.qc.specs.Codeblock.{groups, Codeblock}
-use Rattle.erasure.specs.Marks.{mark_at}
-use Rattle.erasure.specs.declared.marks.Mark.{Mark}
-use Rattle.erasure.specs.declared.marks.Mark.TheVariants.{Erased}
-use Rattle.erasure.specs.declared.marks.Mark.TheVariants as mark
+use Rattle.erasure.specs.Marks.{Mark, mark_at}
 
 -- a bit agrees with what is known of it
 abbrev pub Agrees : Mark → Bit → Type 0
-Agrees mark.Zero x = Zero ≡ x
-Agrees mark.One x = One ≡ x
-Agrees Erased x = Unit {0}
+Agrees (Some y) x = y ≡ x
+Agrees None x = Unit {0}
 
 -- a codeblock that agrees with every known mark
 pub record Fits (c : Shape) (ms : List Mark) (b : List Bit) : Type 0 where

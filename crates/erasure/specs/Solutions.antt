@@ -1,10 +1,11 @@
 -- How many assignments of the first u unknowns there are of some kind, and where they differ.
-use Rattle.std.specs.Prelude.{◌≡◌, ℕ, ◌<◌, ◌≤◌, Bool, true, false, ◌≢◌, List, length, slice_index_or}
-use Rattle.element.specs.declared.Bit.{Bit}
-use Rattle.element.specs.declared.Bit.TheVariants.{Zero, One}
-use Rattle.element.specs.declared.Form.{Form}
+use Rattle.std.specs.Prelude.{◌≡◌, ℕ, ◌<◌, ◌≤◌, ◌≢◌, Result, Ok, Err, List, slice_index_or}
+use Rattle.element.specs.declared.bits.Bit.{Bit}
+use Rattle.element.specs.declared.bits.Bit.TheVariants.{Zero, One}
+use Rattle.element.specs.declared.affine.Form.{Form}
+use Rattle.erasure.specs.declared.elimination.Contradiction.{Contradiction}
 use Rattle.erasure.specs.declared.solutions.Solutions.{Solutions}
-use Rattle.erasure.specs.declared.solutions.Solutions.TheVariants.{Absent, Single, Several}
+use Rattle.erasure.specs.declared.solutions.Solutions.TheVariants.{Single, Several}
 use Rattle.erasure.specs.Unknowns.{member, pivot, Solves}
 
 -- two of them differ at k
@@ -19,10 +20,6 @@ Alike S k = (s s' : ℕ → Bit) → S s → S s' → s k ≡ s' k
 abbrev pub Settled : ((ℕ → Bit) → Type 0) → ℕ → Bit → Type 0
 Settled S k b = (s : ℕ → Bit) → S s → s k ≡ b
 
-abbrev pub Tells : ((ℕ → Bit) → Type 0) → ℕ → Bit → Bool → Type 0
-Tells S k b true = Differ S k
-Tells S k b false = Settled S k b
-
 -- there is one, and it is given by the bits
 pub record Only (u : ℕ) (S : (ℕ → Bit) → Type 0) (bits : List Bit) : Type 0 where
   pub fits : (s : ℕ → Bit) → ((k : ℕ) → k < u → s k ≡ slice_index_or bits k Zero) → S s
@@ -35,15 +32,14 @@ pub record Many (u : ℕ) (S : (ℕ → Bit) → Type 0) (set : ℕ) : Type 0 wh
   pub inside : (k : ℕ) → k < u → member set k ≡ One → Differ S k
   pub outside : (k : ℕ) → k < u → member set k ≡ Zero → Alike S k
 
-abbrev pub Means : ℕ → ((ℕ → Bit) → Type 0) → Solutions → Type 0
-Means u S Absent = (s : ℕ → Bit) → S s → ⊥
-Means u S (Single bits) = Only u S bits
-Means u S (Several set) = Many u S set
+-- none, one or several
+abbrev pub Means : ℕ → ((ℕ → Bit) → Type 0) → Result Solutions Contradiction → Type 0
+Means u S (Err e) = (s : ℕ → Bit) → S s → ⊥
+Means u S (Ok (Single bits)) = Only u S bits
+Means u S (Ok (Several set)) = Many u S set
 
 -- the first k unknowns of a table, sorted into those in which solutions differ and the others
-pub record Sorted (u : ℕ) (t : List Form) (k : ℕ) (bits : List Bit) (set : ℕ) : Type 0 where
+pub record Sorted (u : ℕ) (t : List Form) (k : ℕ) (set : ℕ) : Type 0 where
   pub inside : (j : ℕ) → j < k → member set j ≡ One → Differ (Solves u t) j
   pub outside : (j : ℕ) → j < k → member set j ≡ Zero → Settled (Solves u t) j (pivot t j).bit
   pub rest : (j : ℕ) → k ≤ j → member set j ≡ Zero
-  pub long : length bits ≡ 64
-  pub copied : (j : ℕ) → j < k → slice_index_or bits j Zero ≡ (pivot t j).bit

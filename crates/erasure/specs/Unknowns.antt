@@ -1,8 +1,8 @@
 -- What a form stands for under an assignment of its unknowns, and tables of pivot rows.
 use Rattle.std.specs.Prelude.{◌≡◌, ℕ, zero, suc, ◌/◌, ◌%◌, ◌^◌, ◌<◌, ◌≢◌, List, Some, None, Option, slice_index_or}
-use Rattle.element.specs.declared.Bit.{Bit}
-use Rattle.element.specs.declared.Bit.TheVariants.{Zero, One}
-use Rattle.element.specs.declared.Form.{Form}
+use Rattle.element.specs.declared.bits.Bit.{Bit}
+use Rattle.element.specs.declared.bits.Bit.TheVariants.{Zero, One}
+use Rattle.element.specs.declared.affine.Form.{Form}
 use Rattle.element.specs.Bits.{bit_plus}
 use Rattle.element.specs.Forms.{form_zero, form_plus}
 

@@ -1,14 +1,27 @@
-// Elimination over forms in at most 64 unknowns. What is demanded of the unknowns stands in a table of 64
-// pivot rows: row p is the zero form, or has the unknown p and no other that has a pivot row.
-ghost use Rattle.std.specs.Prelude.{◌≡◌, ℕ, ◌<◌, ◌≤◌, true, false};
-ghost use Rattle.element.specs.declared.Bit.TheVariants.{Zero, One};
-ghost use Rattle.erasure.specs.Unknowns.{member, pivot, Reduced, Cleared, added, Found};
+// Elimination over forms in at most 64 unknowns. What is demanded of the unknowns stands in pivot rows.
+ghost use Rattle.std.specs.Prelude.{◌≡◌, ℕ, ◌<◌, ◌≤◌, true, false, length, is_ok};
+ghost use Rattle.element.specs.declared.bits.Bit.TheVariants.{Zero, One};
+ghost use Rattle.erasure.specs.Unknowns.{member, pivot, Solves, Reduced, Cleared, added, Found};
 ghost use Rattle.erasure.specs.Demands.{Inserted, Demanded};
 
 use element::{Bit, Element, Form};
 
 // No block is filled in more places.
 pub(crate) const MOST_UNKNOWNS: usize = 64;
+
+// No assignment of the unknowns meets all demands.
+#[derive(Clone, Copy)]
+pub(crate) struct Contradiction;
+
+// What is demanded of the first `count` unknowns: row p is the zero form, or has the unknown p and no other that
+// has a pivot row. An array with a count, since the crate allocates nothing.
+#[derive(Drop)]
+pub(crate) struct Pivots {
+    pub(crate) rows: [Form; 64],
+    pub(crate) count: usize,
+    ghost size: { count ≤ 64 },
+    ghost reduced: { Reduced count rows },
+}
 
 // Whether the unknown k is in the set.
 pub(crate) fn holds(unknowns: u64, k: usize) -> bool
@@ -24,70 +37,72 @@ pub(crate) fn lowest_unknown(unknowns: u64, u: usize) -> Option<usize>
     requires { u ≤ 64 }
     ensures { Found u unknowns result }
 {
-    for k in 0..u {
-        if holds(unknowns, k) {
-            return Some(k);
-        }
-    }
-    None
-}
-
-// The form with the pivots of the table taken out of it.
-fn reduce(pivots: &[Form; 64], u: usize, form: Form) -> Form
-    requires size { u ≤ 64 }
-    requires reduced { Reduced u pivots.now }
-    ensures { Cleared u u pivots.now form result }
-{
-    let mut left = form;
-    for p in 0..u {
-        if holds(left.unknowns, p) {
-            left = left.plus(pivots[p]);
-        }
-    }
-    left
+    (0..u).find(|k| holds(unknowns, *k))
 }
 
 // Adds the form to each row that has the unknown k.
-fn substitute(pivots: &mut [Form; 64], u: usize, k: usize, form: Form)
-    requires size { (u ≤ 64) × (k < 64) }
-    ensures { (p : ℕ) → p < u → pivot pivots.new p ≡ added (member (pivot pivots.old p).unknowns k) (pivot pivots.old p) form }
+fn substitute(rows: &mut [Form], k: usize, form: Form)
+    requires { k < 64 }
+    ensures { (p : ℕ) → p < length rows.old → pivot rows.new p ≡ added (member (pivot rows.old p).unknowns k) (pivot rows.old p) form }
 {
-    for p in 0..u {
-        if holds(pivots[p].unknowns, k) {
-            pivots[p] = pivots[p].plus(form);
+    for row in rows.iter_mut() {
+        if holds(row.unknowns, k) {
+            *row = row.plus(form);
         }
     }
 }
 
-// Adds the demand that the form is zero. Answers false where no assignment meets it with the others.
-fn insert(pivots: &mut [Form; 64], u: usize, form: Form) -> bool
-    requires size { u ≤ 64 }
-    requires reduced { Reduced u pivots.old }
-    ensures reduced { Reduced u pivots.new }
-    ensures inserted { Inserted u pivots.old form pivots.new result }
-{
-    let left = reduce(pivots, u, form);
-    match lowest_unknown(left.unknowns, u) {
-        Some(k) => {
-            substitute(pivots, u, k, left);
-            pivots[k] = left;
-            true
+impl Pivots {
+    // Demands nothing.
+    pub(crate) fn new(count: usize) -> Pivots
+        requires { count ≤ 64 }
+        ensures count { result.count ≡ count }
+        ensures free { (s : ℕ → Bit) → Solves count result.rows s }
+    {
+        Pivots {
+            rows: [Form::zero(); 64],
+            count,
         }
-        None => left.bit.same(Bit::Zero),
     }
-}
 
-// Adds the demand that each of the forms is zero. Answers false where no assignment meets them all.
-pub(crate) fn insert_all(pivots: &mut [Form; 64], u: usize, forms: &[Form]) -> bool
-    requires size { u ≤ 64 }
-    requires reduced { Reduced u pivots.old }
-    ensures reduced { Reduced u pivots.new }
-    ensures demanded { Demanded u pivots.old forms.now pivots.new result }
-{
-    for form in forms {
-        if !insert(pivots, u, *form) {
-            return false;
+    // The form with the pivots taken out of it.
+    fn reduce(&self, form: Form) -> Form
+        ensures { Cleared self.now.count self.now.count self.now.rows form result }
+    {
+        let mut left = form;
+        for (p, row) in self.rows[..self.count].iter().enumerate() {
+            if holds(left.unknowns, p) {
+                left = left.plus(*row);
+            }
+        }
+        left
+    }
+
+    // Adds the demand that the form is zero.
+    fn insert(&mut self, form: Form) -> Result<(), Contradiction>
+        ensures count { self.new.count ≡ self.old.count }
+        ensures inserted { Inserted self.old.count self.old.rows form self.new.rows (is_ok result) }
+    {
+        let left = self.reduce(form);
+        match lowest_unknown(left.unknowns, self.count) {
+            Some(k) => {
+                substitute(&mut self.rows, k, left);
+                self.rows[k] = left;
+                Ok(())
+            }
+            None if left.bit == Bit::Zero => Ok(()),
+            None => Err(Contradiction),
         }
     }
-    true
+
+    // Adds the demand that each of the forms is zero.
+    pub(crate) fn insert_all(&mut self, forms: &[Form]) -> Result<(), Contradiction>
+        ensures count { self.new.count ≡ self.old.count }
+        ensures demanded { Demanded self.old.count self.old.rows forms.now self.new.rows (is_ok result) }
+    {
+        for form in forms {
+            self.insert(*form)?;
+        }
+        Ok(())
+    }
 }

@@ -1,6 +1,9 @@
 // Why a block was not filled.
+ghost use Rattle.std.specs.Prelude.{◌≡◌};
 ghost use Rattle.erasure.specs.Refusals.{fill_fault};
+ghost use Rattle.erasure.specs.declared.faults.FillFault.TheVariants.{NoneFits};
 
+use crate::elimination::Contradiction;
 use refusal::Refusal;
 
 #[derive(Clone, Copy, PartialEq, Eq, Debug)]
@@ -15,6 +18,15 @@ pub enum FillFault {
     NoneFits,
     // Several codeblocks fit: how many places were listed.
     SeveralFit(usize),
+}
+
+// No assignment of the unknowns meets the demands where no codeblock fits.
+impl From<Contradiction> for FillFault {
+    ghost from_gives = { λ _ r. r ≡ NoneFits };
+
+    fn from(_: Contradiction) -> FillFault {
+        FillFault::NoneFits
+    }
 }
 
 impl Refusal for FillFault {

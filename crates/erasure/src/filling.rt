@@ -7,19 +7,21 @@ ghost use Rattle.erasure.specs.Fill.{Answers, MarksAfter, forms_after, listed, P
 
 use crate::elimination::MOST_UNKNOWNS;
 use crate::faults::FillFault;
-use crate::marks::{Mark, count_erased, fill_marks, list_places, write_forms};
+use crate::marks::{count_erased, fill_marks, list_places, write_forms};
 use crate::solutions::Solutions;
 use crate::solving::solve;
 use ar4ja::Code;
-use element::Form;
+use element::{Bit, Form};
+use qc::QuasiCyclic;
 
-// Fills the erased symbols of a block, where exactly one codeblock fits those that are known. `forms` is a work
-// buffer for a whole block: it is left with the block as marked, an erased place as the form of its unknown
-// alone, and the punctured group behind it. Where several codeblocks fit, the front of `places` gets the places
-// in which some two of them differ, and the refusal says how many these are.
+// Fills the erased symbols of a block, where exactly one codeblock fits those that are known. A mark is the bit of
+// a symbol, or `None` where the symbol is erased. `forms` is a work buffer for a whole block: it is left with the
+// block as marked, an erased place as the form of its unknown alone, and the punctured group behind it. Where
+// several codeblocks fit, the front of `places` gets the places in which some two of them differ, and the refusal
+// says how many these are.
 pub fn fill(
     code: Code,
-    marks: &mut [Mark],
+    marks: &mut [Option<Bit>],
     forms: &mut [Form],
     places: &mut [usize],
 ) -> Result<(), FillFault>
@@ -41,8 +43,8 @@ pub fn fill(
     write_forms(marks, forms);
     // The check writes the punctured group; its verdict on forms says nothing yet.
     let _ = qc::check(code, forms);
-    match solve(code, forms, erased) {
-        Solutions::Absent => Err(FillFault::NoneFits),
+    let solutions = solve(code, forms, erased)?;
+    match solutions {
         Solutions::Single(bits) => {
             fill_marks(marks, &bits);
             Ok(())

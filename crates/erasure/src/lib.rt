@@ -12,4 +12,3 @@ mod solving;
 
 pub use faults::FillFault;
 pub use filling::fill;
-pub use marks::Mark;

@@ -1,16 +1,15 @@
-// What a table of pivot rows leaves to its unknowns.
-ghost use Rattle.std.specs.Prelude.{◌≡◌, ◌^◌, ◌<◌, ◌≤◌};
-ghost use Rattle.erasure.specs.Unknowns.{pivot, Solves, Reduced};
-ghost use Rattle.erasure.specs.Solutions.{Tells, Means};
+// What pivot rows leave to their unknowns.
+ghost use Rattle.std.specs.Prelude.{◌≡◌, ◌^◌, ◌<◌, ◌≤◌, Ok, MatchBool};
+ghost use Rattle.erasure.specs.Unknowns.{pivot, Solves};
+ghost use Rattle.erasure.specs.Solutions.{Differ, Settled, Means};
 
-use crate::elimination::lowest_unknown;
-use element::{Bit, Form};
+use crate::elimination::{Pivots, lowest_unknown};
+use element::Bit;
 
-// No assignment solves the demands, one does, or several do: then the set of the unknowns in which some two
-// of them differ.
+// One assignment meets the demands, or several do: then the set of the unknowns in which some two of them differ.
+// Neither is an error to pass on, so this is no `Result`.
 #[derive(Clone, Copy)]
 pub(crate) enum Solutions {
-    Absent,
     Single([Bit; 64]),
     Several(u64),
 }
@@ -23,34 +22,28 @@ pub(crate) fn only_unknown(k: usize) -> u64
     1 << k
 }
 
-// Whether two solutions differ in the unknown k: its row has another unknown, or it has none.
-fn is_open(pivots: &[Form; 64], u: usize, k: usize) -> bool
-    requires size { (u ≤ 64) × (k < u) }
-    requires reduced { Reduced u pivots.now }
-    ensures { Tells (Solves u pivots.now) k (pivot pivots.now k).bit result }
-{
-    match lowest_unknown(pivots[k].unknowns ^ only_unknown(k), u) {
-        Some(_) => true,
-        None => false,
+impl Pivots {
+    // Whether two solutions differ in the unknown k: its row has another unknown, or it has none.
+    fn is_open(&self, k: usize) -> bool
+        requires { k < self.now.count }
+        ensures { MatchBool result (Differ (Solves self.now.count self.now.rows) k) (Settled (Solves self.now.count self.now.rows) k (pivot self.now.rows k).bit) }
+    {
+        lowest_unknown(self.rows[k].unknowns ^ only_unknown(k), self.count).is_some()
     }
-}
 
-// What the table leaves to the first u unknowns.
-pub(crate) fn read_off(pivots: &[Form; 64], u: usize) -> Solutions
-    requires size { u ≤ 64 }
-    requires reduced { Reduced u pivots.now }
-    ensures { Means u (Solves u pivots.now) result }
-{
-    let mut bits = [Bit::Zero; 64];
-    let mut open = 0;
-    for k in 0..u {
-        bits[k] = pivots[k].bit;
-        if is_open(pivots, u, k) {
-            open |= only_unknown(k);
+    // What the rows leave to the unknowns.
+    pub(crate) fn solutions(&self) -> Solutions
+        ensures { Means self.now.count (Solves self.now.count self.now.rows) (Ok result) }
+    {
+        let mut open = 0;
+        for k in 0..self.count {
+            if self.is_open(k) {
+                open |= only_unknown(k);
+            }
         }
-    }
-    match lowest_unknown(open, u) {
-        Some(_) => Solutions::Several(open),
-        None => Solutions::Single(bits),
+        match lowest_unknown(open, self.count) {
+            Some(_) => Solutions::Several(open),
+            None => Solutions::Single(self.rows.map(|row| row.bit)),
+        }
     }
 }

@@ -2,44 +2,38 @@
 
 #![tactic(auto)]
 
+ghost use Rattle.std.specs.Prelude.{◌<◌};
+
 #[cfg(test)]
 mod tests {
     use ar4ja::Code;
     use element::{Bit, Form};
-    use erasure::{FillFault, Mark};
-    use qc::{Coder, TableCoder};
+    use erasure::FillFault;
+    use qc::{Coder, QuasiCyclic, TableCoder};
     use refusal::Refusal;
     use std::alloc::{AllocError, Global};
     use std::test::Fail;
 
-    const CODES: [Code; 3] = [Code::Half1024, Code::TwoThirds1024, Code::FourFifths1024];
-
     // The codeblock of a message with many ones.
-    fn codeblock(heap: Global, code: Code) -> Result<Vec<Mark>, AllocError> {
+    fn codeblock(heap: Global, code: Code) -> Result<Vec<Option<Bit>>, AllocError> {
         let mut run = vec![in heap; Bit::Zero; code.whole_len()]?;
-        for i in 0..run.len().min(1024) {
-            if i * i % 7 < 3 {
-                run[i] = Bit::One;
-            }
+        for (i, bit) in run.iter_mut().enumerate().take(1024) {
+            let rest = i % 7;
+            *bit = Bit::from(rest * rest % 7 < 3);
         }
         let _ = TableCoder.encode(code, &mut run);
-        let mut marks = Vec::new(heap);
-        for bit in run.iter().take(code.block_len()) {
-            match bit {
-                Bit::Zero => marks.push(Mark::Zero)?,
-                Bit::One => marks.push(Mark::One)?,
-            }
-        }
-        Ok(marks)
+        run.iter()
+            .take(code.block_len())
+            .map(|bit| Some(*bit))
+            .collect(heap)
     }
 
     // Erases so many symbols from a place on, each some places after the one before.
-    fn erase(marks: &mut [Mark], from: usize, step: usize, count: usize) {
-        for k in 0..count {
-            let at = from.saturating_add(k.saturating_mul(step));
-            if at < marks.len() {
-                marks[at] = Mark::Erased;
-            }
+    fn erase(marks: &mut [Option<Bit>], from: usize, step: usize, count: usize)
+        requires { 0 < step }
+    {
+        for mark in marks.iter_mut().skip(from).step_by(step).take(count) {
+            *mark = None;
         }
     }
 
@@ -47,7 +41,7 @@ mod tests {
     fn fill(
         heap: Global,
         code: Code,
-        marks: &mut [Mark],
+        marks: &mut [Option<Bit>],
         places: &mut [usize],
     ) -> Result<Result<(), FillFault>, AllocError> {
         let mut forms = vec![in heap; Form {
@@ -65,10 +59,10 @@ mod tests {
         assert_eq!(rt; fill(rt.alloc(), code, &mut marks, &mut places)?, Ok(()));
         assert!(rt; marks == codeblock(rt.alloc(), code)?);
         assert!(rt; 100 < marks.len());
-        marks[100] = if marks[100] == Mark::One {
-            Mark::Zero
+        marks[100] = if marks[100] == Some(Bit::One) {
+            Some(Bit::Zero)
         } else {
-            Mark::One
+            Some(Bit::One)
         };
         let damaged = marks.clone()?;
         assert_eq!(rt;
@@ -81,7 +75,7 @@ mod tests {
 
     #[test]
     fn bursts_of_64(rt: HostRuntime) -> Result<(), Fail> {
-        for code in CODES {
+        for code in Code::ALL {
             for from in [0, 990, code.block_len().saturating_sub(64)] {
                 let mut places = [0; 64];
                 let mut marks = codeblock(rt.alloc(), code)?;
@@ -138,7 +132,7 @@ mod tests {
             fill(rt.alloc(), code, &mut marks, &mut [0; 63])?,
             Err(FillFault::ShortList)
         );
-        marks.push(Mark::Zero)?;
+        marks.push(Some(Bit::Zero))?;
         assert_eq!(rt;
             fill(rt.alloc(), code, &mut marks, &mut [0; 63])?,
             Err(FillFault::WrongLengths)

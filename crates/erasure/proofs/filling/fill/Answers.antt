@@ -1,4 +1,5 @@
 use Rattle.std.proofs.Common.{◌<◌, ◌≤◌, length, sym, refl, ◌∙◌, arith}
+use Rattle.std.proofs.lemmas.Result.{err_from_is_err_and}
 use Rattle.qc.specs.Shape.{whole}
 use Rattle.qc.proofs.Soundness.{sounds}
 use Rattle.ar4ja.specs.Codes.{shape_of, shapes_sound}
@@ -40,16 +41,17 @@ returns-then-erased-gt-MOST_UNKNOWNS c =
     (too_many shape c.args.marks.now c.args.forms.now c.args.places.now (c.if-marks-block_len.false ∙ c.block_len.ensures, enough) c.if-places-lt-MOST_UNKNOWNS.false high) in
     record { answer = d.answer; marks = d.marks; forms = d.forms; places = d.places }
 
-pub returns-in-Absent : goal.returns-in-Absent
-returns-in-Absent c =
+pub returns-in_err-solutions : goal.returns-in_err-solutions
+returns-in_err-solutions c =
     let shape = shape_of c.args.code in
+    let p = err_from_is_err_and c.from_residual.result c.from_residual.ensures.1 in
     let able = may_fill shape c.args.marks.now c.args.forms.now c.args.places.now c.block_len.result c.whole_len.result c.count_erased-erased.result
     c.if-marks-block_len.false c.block_len.ensures c.if-forms-whole_len.false c.whole_len.ensures
     c.if-places-lt-MOST_UNKNOWNS.false c.if-erased-gt-MOST_UNKNOWNS.false c.count_erased-erased.ensures in
     let d = absent shape (sounds shape (shapes_sound c.args.code)) c.args.marks.now c.args.forms.now c.args.places.now able
     c.count_erased-erased.result c.count_erased-erased.ensures c.write_forms.new.forms c.check.new.run c.write_forms.ensures c.check.ensures.after
-    c.in-Absent.ensures in
-    record { answer = d.answer; marks = d.marks; forms = d.forms; places = d.places }
+    c.in_err-solutions.field-0.0 c.in_err-solutions.ensures in
+    rw (p.1, p.2) (record { answer = d.answer; marks = d.marks; forms = d.forms; places = d.places })
 
 pub returns-in-Single : goal.returns-in-Single
 returns-in-Single c =
@@ -59,7 +61,7 @@ returns-in-Single c =
     c.if-places-lt-MOST_UNKNOWNS.false c.if-erased-gt-MOST_UNKNOWNS.false c.count_erased-erased.ensures in
     let d = single shape (sounds shape (shapes_sound c.args.code)) c.args.marks.now c.args.forms.now c.args.places.now able
     c.count_erased-erased.result c.count_erased-erased.ensures c.write_forms.new.forms c.check.new.run c.write_forms.ensures c.check.ensures.after
-    c.in-Single.bits c.in-Single.ensures c.fill_marks.new.marks c.fill_marks.auto.marks c.fill_marks.ensures in
+    c.in-Single.bits (rw c.in-Single.is at c.in_ok-solutions.ensures) c.fill_marks.new.marks c.fill_marks.auto.marks c.fill_marks.ensures in
     record { answer = d.answer; marks = d.marks; forms = d.forms; places = d.places }
 
 pub returns-in-Several : goal.returns-in-Several
@@ -70,5 +72,5 @@ returns-in-Several c =
     c.if-places-lt-MOST_UNKNOWNS.false c.if-erased-gt-MOST_UNKNOWNS.false c.count_erased-erased.ensures in
     let d = many shape (sounds shape (shapes_sound c.args.code)) c.args.marks.now c.args.forms.now c.args.places.now able
     c.count_erased-erased.result c.count_erased-erased.ensures c.write_forms.new.forms c.check.new.run c.write_forms.ensures c.check.ensures.after
-    c.in-Several.open c.list_places.result c.in-Several.ensures c.list_places.new.places c.list_places.auto.places c.list_places.ensures in
+    c.in-Several.open c.list_places.result (rw c.in-Several.is at c.in_ok-solutions.ensures) c.list_places.new.places c.list_places.auto.places c.list_places.ensures in
     record { answer = d.answer; marks = d.marks; forms = d.forms; places = d.places }

@@ -1,26 +1,37 @@
-use Rattle.std.proofs.Common.{◌≡◌, ℕ, ◌+◌, ◌<◌, length, get_or, sym, ◌∙◌, ap₂, arith}
-use Rattle.element.specs.declared.Bit.TheVariants.{Zero}
-use Rattle.qc.proofs.Written.{written_more}
-use Rattle.erasure.specs.declared.marks.Mark.{Mark}
-use Rattle.erasure.specs.Marks.{mark_at, gap, filled_of}
-use Rattle.erasure.proofs.Ranks.{rank_step, rank_lt, rank_le}
+use Rattle.std.proofs.Common.{◌<◌, length, arith}
+use Rattle.erasure.proofs.Ranks.{count_lt, count_erased, count_known}
+use Rattle.erasure.proofs.Replacing.{mark_left, fill_erased, fill_known}
 use Rattle.erasure.proofs.marks.fill_marks.Goals as goal
+use Rattle.erasure.proofs.marks.fill_marks.Goals.{then-is_none, else-is_none}
 
-pub fill_mark-requires : goal.fill_mark-requires
-fill_mark-requires c =
-    λ e. omega (arith, rank_lt c.args.marks.now c.loop-i.i (length c.args.marks.now) (omega arith) (sym (c.loop-i.invariant.1.after c.loop-i.i (omega arith)) ∙ e), c.requires, c.loop-i.invariant.0)
-
-pub next_unknown-k-requires : goal.next_unknown-k-requires
-next_unknown-k-requires c = omega (arith, rank_le c.args.marks.now c.loop-i.i (length c.args.marks.now) (omega arith), c.requires, c.loop-i.invariant.0)
-
-pub loop-i-preserved : goal.loop-i-preserved
-loop-i-preserved c =
+pub bounds-bits-k : goal.bounds-bits-k
+bounds-bits-k c =
     let ms = c.args.marks.now in
-    let i = c.loop-i.i in
-    let bits = c.args.bits.now in
-    let here : mark_at c.loop-i.marks i ≡ mark_at ms i = c.loop-i.invariant.1.after i (omega arith) in
-    let room : i < length c.loop-i.marks = omega (arith, c.loop-i.auto.marks) in (
-      c.next_unknown-k.ensures ∙ ap₂ (λ (j : ℕ) (k : Mark). j + gap k) c.loop-i.invariant.0 here ∙ sym (rank_step ms i),
-      written_more c.loop-i.marks i c.fill_mark.result c.loop-i.invariant.1 (omega arith) room
-          (c.fill_mark.ensures ∙ ap₂ (λ (j : ℕ) (k : Mark). filled_of k (get_or bits j Zero)) c.loop-i.invariant.0 here),
-    )
+    let i = c.loop-mark.mark-index in
+    let low : i < length c.loop-mark.marks = omega arith in
+    let so = c.loop-mark.invariant in
+    omega (arith, count_lt ms i c.loop-mark.k so.0 _ (mark_left ms c.args.bits.now c.loop-mark.marks i low so.1) (omega arith) c.if-is_none.ensures, c.requires)
+
+pub overflow_add-k : goal.overflow_add-k
+overflow_add-k c =
+    let ms = c.args.marks.now in
+    let i = c.loop-mark.mark-index in
+    let low : i < length c.loop-mark.marks = omega arith in
+    let so = c.loop-mark.invariant in
+    omega (arith, count_lt ms i c.loop-mark.k so.0 _ (mark_left ms c.args.bits.now c.loop-mark.marks i low so.1) (omega arith) c.if-is_none.ensures, c.requires)
+
+pub loop-mark-preserved : goal.loop-mark-preserved
+loop-mark-preserved c =
+    let ms = c.args.marks.now in
+    let vs = c.loop-mark.marks in
+    let i = c.loop-mark.mark-index in
+    let k = c.loop-mark.k in
+    let low : i < length vs = omega arith in
+    let so = c.loop-mark.invariant in
+    let read = mark_left ms c.args.bits.now vs i low so.1 in
+    elim c.if-is_none.branch [
+      | then-is_none w ↦
+          rw (w.k-is, w.marks-is) (count_erased ms i k so.0 _ read w.if-is_none.ensures, fill_erased ms c.args.bits.now vs i low so.1 k so.0 w.if-is_none.ensures)
+      | else-is_none w ↦
+          rw (w.k-is, w.marks-is) (count_known ms i k so.0 _ read w.if-is_none.ensures, fill_known ms c.args.bits.now vs i low so.1 w.if-is_none.ensures)
+    ]

@@ -1,24 +1,32 @@
-use Rattle.std.proofs.Common.{◌≡◌, ℕ, ◌+◌, ◌<◌, length, sym, ap, ◌∙◌, arith}
+use Rattle.std.proofs.Common.{◌≡◌, ◌<◌, length, ap, ◌∙◌, ap₂, arith}
+use Rattle.std.specs.Option.{is_some}
 use Rattle.qc.proofs.Written.{written_more}
-use Rattle.erasure.specs.Marks.{mark_at, gap, form_of}
+use Rattle.erasure.specs.Marks.{form_of}
 use Rattle.erasure.proofs.Laying.{laid_made}
-use Rattle.erasure.proofs.Ranks.{rank_step, rank_lt, rank_le}
+use Rattle.erasure.proofs.Ranks.{mark_read, count_few, count_erased, count_known}
 use Rattle.erasure.proofs.marks.write_forms.Goals as goal
+use Rattle.erasure.proofs.marks.write_forms.Goals.{then-is_none, else-is_none}
 
 pub form_of-requires : goal.form_of-requires
-form_of-requires c = λ e. omega (arith, rank_lt c.args.marks.now c.loop-i.i (length c.args.marks.now) (omega arith) e, c.requires.few, c.loop-i.invariant.0)
+form_of-requires c = λ e. count_few c.args.marks.now c.loop-i.i c.loop-i.k (omega arith) c.loop-i.invariant.0 (ap is_some e) c.requires.few
 
-pub next_unknown-k-requires : goal.next_unknown-k-requires
-next_unknown-k-requires c = omega (arith, rank_le c.args.marks.now c.loop-i.i (length c.args.marks.now) (omega arith), c.requires.few, c.loop-i.invariant.0)
+pub overflow_add-k : goal.overflow_add-k
+overflow_add-k c = omega (arith, count_few c.args.marks.now c.loop-i.i c.loop-i.k (omega arith) c.loop-i.invariant.0 c.if-is_none.ensures c.requires.few)
 
 pub loop-i-preserved : goal.loop-i-preserved
 loop-i-preserved c =
     let ms = c.args.marks.now in
     let i = c.loop-i.i in
-    let room : i < length c.loop-i.forms = omega (arith, c.requires.room, c.loop-i.auto.forms) in (
-      c.next_unknown-k.ensures ∙ ap (λ (j : ℕ). j + gap (mark_at ms i)) c.loop-i.invariant.0 ∙ sym (rank_step ms i),
-      written_more c.loop-i.forms i c.form_of.result c.loop-i.invariant.1 (omega arith) room (c.form_of.ensures ∙ ap (form_of (mark_at ms i)) c.loop-i.invariant.0),
-    )
+    let k = c.loop-i.k in
+    let low : i < length ms = omega arith in
+    let read = mark_read ms i low in
+    let so = c.loop-i.invariant in
+    let room : i < length c.loop-i.forms = omega (arith, c.requires.room, c.loop-i.auto.forms) in
+    let made = written_more c.loop-i.forms i c.form_of.result so.1 (omega arith) room (c.form_of.ensures ∙ ap₂ form_of read so.0) in
+    elim c.if-is_none.branch [
+      | then-is_none w ↦ rw w.k-is (count_erased ms i k so.0 _ read w.if-is_none.ensures, made)
+      | else-is_none w ↦ rw w.k-is (count_known ms i k so.0 _ read w.if-is_none.ensures, made)
+    ]
 
 pub returns : goal.returns
 returns c =

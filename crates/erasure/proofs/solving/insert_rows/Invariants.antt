@@ -1,10 +1,11 @@
-use Rattle.std.proofs.Common.{◌*◌}
+use Rattle.std.proofs.Common.{◌≡◌, ◌*◌}
 use Rattle.ar4ja.specs.Codes.{shape_of}
-use Rattle.erasure.specs.Unknowns.{Reduced, Solves}
+use Rattle.erasure.specs.Unknowns.{Solves}
 use Rattle.erasure.specs.Demands.{Same, RowsZero}
 use Rattle.erasure.proofs.solving.insert_rows.Given as goal
 
 abbrev pub invariant-loop-n : goal.invariant-loop-n
 invariant-loop-n l =
-    Reduced l.u l.pivots
-    × Same (Solves l.u l.pivots) (λ s. Solves l.u l.initial.pivots s × RowsZero l.u (shape_of l.code) l.run (l.n * (shape_of l.code).m) s)
+    (l.pivots.count ≡ l.initial.pivots.count)
+    × Same (Solves l.initial.pivots.count l.pivots.rows)
+    (λ s. Solves l.initial.pivots.count l.initial.pivots.rows s × RowsZero l.initial.pivots.count (shape_of l.code) l.run (l.n * (shape_of l.code).m) s)
