@@ -1,5 +1,6 @@
 -- A job read value by value is what the order of the columns says.
-use Rattle.std.proofs.Common.{◌≡◌, ℕ, List, [], ◌∷◌, length, Ok, Err, Result, sym, refl, ap, ◌∙◌}
+use Rattle.std.proofs.Common.{◌≡◌, ℕ, List, [], ◌∷◌, length, Some, None, Ok, Err, Option, Result, sym, refl, ap, ◌∙◌, arith}
+use Rattle.std.specs.Option.{ok_or}
 use mathlib.Core.Path.{fun_ext}
 use Rattle.ar4ja.specs.declared.codes.Code.{Code}
 use Rattle.jobsheet.specs.declared.names.CoderName.{CoderName}
@@ -8,6 +9,8 @@ use Rattle.jobsheet.specs.declared.names.Order.TheVariants.{CodeCoderMessage, Co
 use Rattle.jobsheet.specs.declared.faults.ValueFault.{ValueFault}
 use Rattle.jobsheet.specs.declared.faults.LineFault.{LineFault}
 use Rattle.jobsheet.specs.declared.faults.LineFault.TheVariants.{Count}
+use Rattle.jobsheet.specs.declared.token.Words.{Words}
+use Rattle.jobsheet.specs.Tokens.{Three}
 use Rattle.jobsheet.specs.Values.{code_value, coder_value, message_value}
 use Rattle.jobsheet.specs.Recognition.{first_name, second_name, third_name}
 use Rattle.jobsheet.specs.Jobs.{Asked, column, job_of, line_job}
@@ -90,13 +93,18 @@ module _ (o : Order) (x y z : List ℕ) (a : Asked) where
         ∙ ap (λ r. then r (behind o y z)) first ∙ chained o x y z a
 
 -- a line with another number of words
-pub not_three : (o : Order) (ws : List (List ℕ)) → (length ws ≡ 3 → ⊥) → Err Count ≡ line_job o ws
+not_three : (o : Order) (ws : List (List ℕ)) → (length ws ≡ 3 → ⊥) → Err Count ≡ line_job o ws
 unfolding line_job
 not_three o [] none_is = refl
 not_three o (x ∷ []) none_is = refl
 not_three o (x ∷ y ∷ []) none_is = refl
 not_three o (x ∷ y ∷ z ∷ []) none_is = absurd (none_is refl)
 not_three o (x ∷ y ∷ z ∷ w ∷ ws) none_is = refl
+
+-- as the words are told
+pub not_counted : (o : Order) (ws : List (List ℕ)) (w : Option Words) (f : LineFault) → Three w ws → ◌≡◌ {A = Result Words LineFault} (Err f) (ok_or w Count) → Err f ≡ line_job o ws
+not_counted o ws None f none_is e = let same : f ≡ Count = cc in ap (λ g. Err g) same ∙ not_three o ws none_is
+not_counted o ws (Some x) f is e = let z : ◌≡◌ {A = ℕ} 0 1 = cc in absurd (omega arith)
 
 pub three : (o : Order) (ws : List (List ℕ)) (x y z : List ℕ) → ws ≡ x ∷ y ∷ z ∷ [] → job_of o x y z ≡ line_job o ws
 unfolding line_job

@@ -1,10 +1,10 @@
 -- The parity that a coder leaves behind a message.
-use Rattle.std.proofs.Common.{◌≡◌, ℕ, ◌+◌, ◌*◌, ◌/◌, ◌%◌, ◌<◌, ◌≤◌, List, ◌++◌, map, length, get_or, drop, sym, ap, ◌∙◌, ap₂, arith}
+use Rattle.std.proofs.Common.{◌≡◌, ℕ, ◌+◌, ◌*◌, ◌/◌, ◌%◌, ◌<◌, ◌≤◌, List, ◌++◌, map, length, get_or, take, drop, sym, ap, ◌∙◌, ap₂, arith}
 use Rattle.std.specs.List.{range_with_len}
-use Rattle.std.proofs.lemmas.List.{get_or_append_left, length-append, ext_get_or, get_or-drop}
+use Rattle.std.proofs.lemmas.List.{get_or_append_left, length-append, ext_get_or, get_or-drop, get_or-take}
 use Rattle.std.proofs.lemmas.List.FromFn.{length-map-range_with_len, get_or-map-range_with_len}
-use Rattle.element.specs.declared.Bit.{Bit}
-use Rattle.element.specs.declared.Bit.TheVariants.{Zero}
+use Rattle.element.specs.declared.bits.Bit.{Bit}
+use Rattle.element.specs.declared.bits.Bit.TheVariants.{Zero}
 use Rattle.element.specs.Bits.{bit_plus, bit_laws}
 use Rattle.qc.specs.Shape.{Shape, M, whole}
 use Rattle.qc.specs.Segments.{segments}
@@ -73,15 +73,12 @@ hex_same x y n e =
     ∙ digit_same x y k (e _ (omega arith)) (e _ (omega arith)) (e _ (omega arith)) (e _ (omega arith))
     ∙ sym (get_or-map-range_with_len (digit_at y) 0 n k k 0 low (omega arith)))
 
--- the digits behind the message, read from place 1,024 on, are those of the parity
+-- the digits of the bits behind the message are those of the parity
 pub hex_there : (code : Code) (w : List ℕ) (ys : List Bit) → ((i : ℕ) → i < 2 * M (shape_of code) → get_or ys (1024 + i) Zero ≡ parity_bit code (message_bits w) i)
-    → (zs : List Bit) → zs ≡ drop 1024 ys → (n : ℕ) → n ≡ digits code → map (digit_at (λ i. get_or zs i Zero)) (range_with_len 0 n) ≡ parity_hex code w
+    → (k n : ℕ) → k ≡ 2 * M (shape_of code) → n ≡ digits code → map (digit_at (λ i. get_or (take k (drop 1024 ys)) i Zero)) (range_with_len 0 n) ≡ parity_hex code w
 unfolding parity_hex
-hex_there code w ys there zs e n long =
-    hex_same (λ i. get_or zs i Zero) (parity_bit code (message_bits w)) n
-    (λ i h. ap (λ l. get_or l i Zero) e ∙ get_or-drop 1024 ys i Zero ∙ there i (omega (arith, (sizes code).whole_digits)))
+hex_there code w ys there k n e long =
+    hex_same (λ i. get_or (take k (drop 1024 ys)) i Zero) (parity_bit code (message_bits w)) n
+    (λ i h. let low : i < 2 * M (shape_of code) = omega (arith, (sizes code).whole_digits) in
+    get_or-take k (drop 1024 ys) i Zero (omega arith) ∙ get_or-drop 1024 ys i Zero ∙ there i low)
     ∙ ap (λ k. map (digit_at (parity_bit code (message_bits w))) (range_with_len 0 k)) long
-
-pub length_parity : (code : Code) (w : List ℕ) → length (parity_hex code w) ≡ digits code
-unfolding parity_hex
-length_parity code w = length-map-range_with_len (digit_at (parity_bit code (message_bits w))) 0 (digits code)

@@ -5,6 +5,7 @@ pub mod Orders
 pub mod Asking
 pub mod Fronts
 pub mod Filling
+pub mod Chunks
 pub mod Digits
 pub mod Coded
 pub mod Stepping

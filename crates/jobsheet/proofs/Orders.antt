@@ -1,13 +1,13 @@
 -- The names line: three words, and the order that they stand in.
-use Rattle.std.proofs.Common.{◌≡◌, ℕ, eqb, List, [], ◌∷◌, ◌++◌, length, take, Some, None, Option, sym, refl, ap, ◌∙◌, ap₂, inl, inr, arith}
-use native.Mathlib.Nat.{sub-zero}
+use Rattle.std.proofs.Common.{◌≡◌, ℕ, ◌≤◌, eqb, List, [], ◌∷◌, ◌++◌, length, Some, None, Option, sym, refl, ap, ◌∙◌, ap₂, inl, inr, arith}
 use Rattle.std.proofs.lemmas.Bool.{cases_Bool, cond-true, cond-false, le-leb, eqb-true}
 use Rattle.jobsheet.specs.declared.names.Name.{Name}
 use Rattle.jobsheet.specs.declared.names.Name.TheVariants.{Code, Coder, Message}
 use Rattle.jobsheet.specs.declared.names.Order.{Order}
 use Rattle.jobsheet.specs.declared.names.Order.TheVariants.{CodeCoderMessage, CodeMessageCoder, CoderCodeMessage, CoderMessageCode, MessageCodeCoder, MessageCoderCode}
 use Rattle.jobsheet.specs.Text.{on_first, words}
-use Rattle.jobsheet.specs.Splitting.{words_from}
+use Rattle.jobsheet.specs.declared.line.Line.{Line}
+use Rattle.jobsheet.specs.Tokens.{rest, left}
 use Rattle.jobsheet.specs.Names.{names_line, order_of}
 use Rattle.jobsheet.specs.Recognition.{name_word, first_name, second_name, third_name, Named, Arranged}
 use Rattle.jobsheet.proofs.Splitting.{words_step}
@@ -85,9 +85,9 @@ name_same Message Code e = absurd (omega (arith, ap length e))
 name_same Message Coder e = absurd (omega (arith, ap length e))
 name_same Message Message e = refl
 
--- the words from the start of a text are those of its first line
-pub from_start : (text : List ℕ) (end : ℕ) → words_from text 0 end ≡ words (take end text)
-from_start text end = cond-true _ _ _ (le-leb 0 end (omega arith)) ∙ ap (λ k. words (take k text)) (sub-zero end)
+-- the words of a line that none is read of yet
+pub unread : (l : Line) → l.from ≤ l.end → left l ≡ words (rest l)
+unread l h = cond-true _ _ _ (le-leb l.from l.end h)
 
 module _ (line : List ℕ) where
   -- what a names line's words are

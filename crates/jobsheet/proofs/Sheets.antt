@@ -1,5 +1,5 @@
 -- A whole sheet, line after line.
-use Rattle.std.proofs.Common.{◌≡◌, ℕ, ◌+◌, ◌<◌, ◌≤◌, true, false, List, [], ◌∷◌, ◌++◌, length, take, drop, is_ok, is_err, Ok, Err, Result, sym, refl, ap, ◌∙◌, ap₂, append_assoc, append-nil, arith, length-append, length-drop}
+use Rattle.std.proofs.Common.{◌≡◌, ℕ, ◌+◌, ◌<◌, ◌≤◌, true, false, List, [], ◌∷◌, ◌++◌, length, take, drop, is_ok, is_err, Ok, Err, Result, sym, refl, ap, ◌∙◌, ap₂, append_assoc, append-nil, arith, length-append}
 use Rattle.std.proofs.lemmas.List.{take_at}
 use Rattle.std.proofs.lemmas.Bool.{false≢true}
 use Rattle.jobsheet.specs.declared.names.Order.{Order}
@@ -9,11 +9,8 @@ use Rattle.jobsheet.specs.Printing.{ended, front}
 use Rattle.jobsheet.specs.Printout.{answer_text, line_answer, opening, opening_text, printed_lines, body, printed_sheet}
 use Rattle.jobsheet.specs.Sheets.{Standing, opened, open_printed, open_standing, job_printed, job_standing, some_left}
 
--- what was written to the front of a buffer lies within it, and can be taken again
+-- what was written to the front of a buffer can be taken again
 module _ (text old new : List ℕ) (e : new ≡ front text old) (n : ℕ) (long : n ≡ length text) where
-  pub front_within : length new ≡ length old → n ≤ length new
-  front_within same = omega (arith, same, ap length e, length-append text (drop (length text) old), length-drop (length text) old)
-
   pub front_take : take n new ≡ text
   front_take = ap (take n) e ∙ take_at text (drop (length text) old) n (sym long)
 

@@ -1,5 +1,5 @@
 -- Lines and words, one at a time.
-use Rattle.std.proofs.Common.{◌≡◌, ℕ, suc, true, false, cond, eqb, ltb, List, [], ◌∷◌, length, take, drop, sym, refl, ap, ◌∙◌, inl, inr, one-add, arith}
+use Rattle.std.proofs.Common.{◌≡◌, ℕ, suc, ◌+◌, true, false, cond, eqb, ltb, List, [], ◌∷◌, length, take, drop, sym, refl, ap, ◌∙◌, inl, inr, add-one, one-add, arith}
 use Rattle.std.specs.List.{prefix_len}
 use Rattle.std.proofs.lemmas.Bool.{cases_Bool, cond-true, cond-false, lt-ltb}
 use Rattle.std.proofs.lemmas.Bool.Decides.{nat_tests}
@@ -7,11 +7,14 @@ use Rattle.jobsheet.specs.Text.{on_first, lines, words}
 use Rattle.jobsheet.specs.Splitting.{apart}
 
 -- how far the first piece goes, by the first byte
-stops : (s b : ℕ) (bs : List ℕ) → eqb b s ≡ true → prefix_len (apart s) (b ∷ bs) ≡ 0
+pub stops : (s b : ℕ) (bs : List ℕ) → eqb b s ≡ true → prefix_len (apart s) (b ∷ bs) ≡ 0
 stops s b bs e = simp e
 
 goes : (s b : ℕ) (bs : List ℕ) → eqb b s ≡ false → prefix_len (apart s) (b ∷ bs) ≡ suc (prefix_len (apart s) bs)
 goes s b bs e = simp (e, one-add)
+
+pub goes_on : (s b : ℕ) (bs : List ℕ) → eqb b s ≡ false → prefix_len (apart s) (b ∷ bs) ≡ prefix_len (apart s) bs + 1
+goes_on s b bs e = goes s b bs e ∙ sym (add-one _)
 
 pub lines_none : lines [] ≡ []
 unfolding lines

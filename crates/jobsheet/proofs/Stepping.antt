@@ -1,14 +1,17 @@
 -- From one line of a sheet to the next.
-use Rattle.std.proofs.Common.{◌≡◌, ℕ, suc, ◌+◌, ◌-◌, ◌<◌, ◌≤◌, List, [], ◌∷◌, length, take, drop, Some, None, Err, Option, sym, ap, ◌∙◌, ap₂, inl, inr, arith}
+use Rattle.std.proofs.Common.{◌≡◌, ℕ, suc, ◌+◌, ◌-◌, ◌<◌, ◌≤◌, List, [], ◌∷◌, length, take, drop, min, None, Ok, Err, Option, Result, sym, ap, ◌∙◌, ap₂, inl, inr, arith}
 use native.Mathlib.Nat.{sub-zero}
 use Rattle.std.specs.List.{prefix_len}
 use Rattle.std.proofs.lemmas.List.Sums.{prefix_len-le-length}
 use Rattle.std.proofs.lemmas.List.{length-drop, drop-drop, drop_all, take_all, take_rest, nil_from_length}
 use Rattle.std.proofs.lemmas.Bool.{cases_lt, cond-false, le-ltb}
 use Rattle.jobsheet.specs.declared.names.Order.{Order}
+use Rattle.jobsheet.specs.declared.line.Line.{Line}
+use Rattle.jobsheet.specs.declared.faults.SheetFault.{SheetFault}
 use Rattle.jobsheet.specs.declared.faults.SheetFault.TheVariants.{Names}
 use Rattle.jobsheet.specs.Text.{lines}
 use Rattle.jobsheet.specs.Splitting.{apart}
+use Rattle.jobsheet.specs.Tokens.{rest}
 use Rattle.jobsheet.specs.Names.{order_of, sheet_order}
 use Rattle.jobsheet.specs.Printout.{others, by_names, opening}
 use Rattle.jobsheet.specs.Steps.{LineAt, Begun}
@@ -35,58 +38,64 @@ module _ (text : List ℕ) (at n : ℕ) (inside : at ≤ length text) (e : n ≡
       ∙ ap (λ k. take k (drop at text) ∷ lines (drop (suc k) (drop at text))) (sym reach)
       ∙ ap₂ (λ k l. take k (drop at text) ∷ lines l) same (drop-drop (suc n) at text)
 
-  -- a line with its newline
-  pub ended_line : at + n < length text → LineAt text at (at + n) (at + n + 1)
-  ended_line h =
-      let next : at + suc n ≡ at + n + 1 = omega arith in
-      let there : lines (drop at text) ≡ take (at + n - at) (drop at text) ∷ lines (drop (at + n + 1) text)
-      = here (omega arith) ∙ ap (λ k. take (at + n - at) (drop at text) ∷ lines (drop k text)) next in
-      record { starts = omega arith; ends = fits; within = omega arith; rest = sym (ap others there); there = λ _. there; goes = λ _. omega arith }
+  -- behind the line and its newline, if it has one
+  after : (next : ℕ) → next ≡ min (length text) (at + n + 1) → lines (drop (at + suc n) text) ≡ lines (drop next text)
+  after next e = elim (cases_lt (at + n) (length text)) [
+    | inl h ↦ let same : at + suc n ≡ next = grind (arith, e) in ap (λ k. lines (drop k text)) same
+    | inr h ↦ let past : length text ≤ next = grind (arith, e, fits) in none_left text (at + suc n) (omega arith) ∙ sym (none_left text next past)
+  ]
 
-  -- the last line, or none
-  pub last_line : length text ≤ at + n → LineAt text at (at + n) (at + n)
-  last_line h =
-      let past : lines (drop (at + suc n) text) ≡ lines (drop (at + n) text) = none_left text (at + suc n) (omega arith) ∙ sym (none_left text (at + n) h) in
-      let there : at < length text → lines (drop at text) ≡ take (at + n - at) (drop at text) ∷ lines (drop (at + n) text)
-      = λ l. here l ∙ ap (λ ls. take (at + n - at) (drop at text) ∷ ls) past in
-      record {
-        starts = omega arith;
-        ends = fits;
-        within = fits;
-        there = there;
-        goes = λ l. omega arith;
-        rest = elim (cases_lt at (length text)) [
-          | inl l ↦ sym (ap others (there l))
-          | inr l ↦ none_left text (at + n) h ∙ sym (ap others (none_left text at l))
-        ];
-      }
+  module _ (line : Line) (whole : line.text.now ≡ text) (begins : line.from ≡ at) (ends : line.end ≡ at + n) (next : ℕ) (least : next ≡ min (length text) (at + n + 1)) where
+    there : at < length text → lines (drop at text) ≡ take (line.end - at) (drop at text) ∷ lines (drop next text)
+    there h = here h ∙ ap₂ (λ k ls. take (k - at) (drop at text) ∷ ls) (sym ends) (after next least)
+
+    pub line_stands : LineAt text at line next
+    line_stands = record {
+      whole = whole;
+      begins = begins;
+      starts = omega (arith, ends);
+      within = grind (arith, least);
+      rest = elim (cases_lt at (length text)) [
+        | inl h ↦ sym (ap others (there h))
+        | inr h ↦ sym (after next least) ∙ none_left text (at + suc n) (omega arith) ∙ sym (ap others (none_left text at h))
+      ];
+      there = there;
+      goes = λ h. grind (arith, least, fits);
+    }
 
 -- the names are in the first line
-module _ (text : List ℕ) (end next : ℕ) (l : LineAt text 0 end next) where
-  none_named : length text ≤ 0 → order_of (take end text) ≡ None
-  unfolding order_of
-  none_named h = let e : text ≡ [] = nil_from_length text (omega arith) in ap (λ t. order_of (take end t)) e ∙ ap order_of (take_all end [] (omega arith))
+module _ (text : List ℕ) (line : Line) (next : ℕ) (l : LineAt text 0 line next) where
+  first_rest : rest line ≡ take line.end text
+  first_rest =
+      ap (λ t. take (line.end - line.from) (drop line.from t)) l.whole
+      ∙ ap (λ k. take (line.end - k) (drop k text)) l.begins
+      ∙ ap (λ k. take k text) (sub-zero line.end)
 
-  pub by_first : sheet_order (lines text) ≡ order_of (take end text)
+  none_named : length text ≤ 0 → order_of (take line.end text) ≡ None
+  unfolding order_of
+  none_named h = let e : text ≡ [] = nil_from_length text (omega arith) in ap (λ t. order_of (take line.end t)) e ∙ ap order_of (take_all line.end [] (omega arith))
+
+  by_first : sheet_order (lines text) ≡ order_of (take line.end text)
   by_first = elim (cases_lt 0 (length text)) [
-    | inl h ↦ ap sheet_order (l.there h) ∙ ap (λ k. order_of (take k text)) (sub-zero end)
+    | inl h ↦ ap sheet_order (l.there h) ∙ ap (λ k. order_of (take k text)) (sub-zero line.end)
     | inr h ↦ ap sheet_order (none_left text 0 h) ∙ sym (none_named h)
   ]
 
   module _ (short : length text ≤ 65536) where
-    opening_by : (r : Option Order) → r ≡ order_of (take end text) → opening text ≡ by_names r
-    opening_by r e = cond-false _ _ _ (le-ltb 65536 (length text) short) ∙ ap by_names (by_first ∙ sym e)
+    opening_is : opening text ≡ by_names (order_of (take line.end text))
+    opening_is = cond-false _ _ _ (le-ltb 65536 (length text) short) ∙ ap by_names by_first
 
-    pub not_begun : None ≡ order_of (take end text) → opening text ≡ Err Names
-    not_begun e = opening_by None e
+    -- as the names are read
+    pub opening_by : (o : Option Order) → o ≡ order_of (rest line) → (r : Result Order SheetFault) → r ≡ by_names o → opening text ≡ r
+    opening_by o e r f = opening_is ∙ ap (λ t. by_names (order_of t)) (sym first_rest) ∙ ap by_names (sym e) ∙ sym f
 
-    pub begun : (o : Order) → Some o ≡ order_of (take end text) → Begun text o next
+    pub begun : (o : Order) → opening text ≡ Ok o → Begun text o next
     begun o e = record {
-      order = opening_by (Some o) e;
+      order = e;
       rest = l.rest;
       goes = elim (cases_lt 0 (length text)) [
         | inl h ↦ l.goes h
-        | inr h ↦ let no_order : Some o ≡ None = e ∙ none_named h in let z : ◌≡◌ {A = ℕ} 0 1 = cc in absurd (omega arith)
+        | inr h ↦ let no_order : ◌≡◌ {A = Result Order SheetFault} (Err Names) (Ok o) = ap by_names (sym (none_named h)) ∙ sym opening_is ∙ e in let z : ◌≡◌ {A = ℕ} 0 1 = cc in absurd (omega arith)
       ];
       within = l.within;
       short = short;

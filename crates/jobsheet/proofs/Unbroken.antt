@@ -1,9 +1,9 @@
 -- Texts without a newline are lines of what is printed.
-use Rattle.std.proofs.Common.{◌≡◌, ℕ, zero, suc, ◌+◌, ◌/◌, ◌%◌, ◌<◌, ◌≤◌, Bool, true, false, cond, ◌&&◌, eqb, ltb, List, [], ◌∷◌, ◌++◌, map, length, get_or, Ok, Err, codes, decimal, Result, sym, refl, ap, ◌∙◌, subst, inl, inr, append_assoc, le_of_suc-le-suc, not-suc-le-zero, add-zero, arith}
+use Rattle.std.proofs.Common.{◌≡◌, ℕ, zero, suc, ◌+◌, ◌/◌, ◌%◌, ◌<◌, ◌≤◌, Bool, true, false, not, ◌&&◌, eqb, ltb, List, [], ◌∷◌, ◌++◌, map, length, get_or, Ok, Err, codes, decimal, Result, sym, refl, ap, ◌∙◌, subst, inl, inr, append_assoc, le_of_suc-le-suc, not-suc-le-zero, add-zero, arith}
 use Rattle.std.specs.List.{range_with_len}
 use Rattle.std.specs.Fmt.{digits, digits_onto, digit_glyph}
 use Rattle.std.proofs.lemmas.Bool.{cases_Bool, and_parts, and_from, cond-true, cond-false, cond_both, ne_eqb, false≢true}
-use Rattle.element.specs.declared.Bit.{Bit}
+use Rattle.element.specs.declared.bits.Bit.{Bit}
 use Rattle.refusal.specs.Outcome.{Numbered}
 use Rattle.ar4ja.specs.declared.codes.Code.{Code}
 use Rattle.jobsheet.specs.declared.names.CoderName.{CoderName}
@@ -30,7 +30,7 @@ unbroken (b ∷ bs) = apart 10 b && unbroken bs
 
 not_newline : (b : ℕ) → apart 10 b ≡ true → eqb b 10 ≡ false
 not_newline b e = elim (cases_Bool (eqb b 10)) [
-  | inl t ↦ absurd (false≢true (ap (λ x. cond x false true) (sym t) ∙ e))
+  | inl t ↦ absurd (false≢true (ap not (sym t) ∙ e))
   | inr f ↦ f
 ]
 
@@ -48,7 +48,7 @@ joined [] b u v = v
 joined (x ∷ a) b u v = let p = and_parts (apart 10 x) (unbroken a) u in and_from (apart 10 x) (unbroken (a ++ b)) p.0 (joined a b p.1 v)
 
 high : (b : ℕ) → 48 ≤ b → apart 10 b ≡ true
-high b h = ap (λ t. cond t false true) (ne_eqb b 10 (λ e. omega arith))
+high b h = ap not (ne_eqb b 10 (λ e. omega arith))
 
 glyph_high : (d : ℕ) → apart 10 (digit_glyph false d) ≡ true
 glyph_high d = cond_both (ltb d 10) (48 + d) (87 + d) (λ b. apart 10 b ≡ true) (λ _. high _ (omega arith)) (λ _. high _ (omega arith))

@@ -1,23 +1,23 @@
 -- Inner contracts: a job filled in value by value, as the code reads it.
 use Rattle.std.specs.Prelude.{ℕ, List, Ok, Err, Result}
-use Rattle.std.specs.Borrow.{Bor}
 use Rattle.ar4ja.specs.declared.codes.Code.{Code}
 use Rattle.jobsheet.specs.declared.names.CoderName.{CoderName}
 use Rattle.jobsheet.specs.declared.names.Name.{Name}
 use Rattle.jobsheet.specs.declared.names.Name.TheVariants as name
 use Rattle.jobsheet.specs.declared.faults.ValueFault.{ValueFault}
 use Rattle.jobsheet.specs.declared.faults.LineFault.{LineFault}
+use Rattle.jobsheet.specs.declared.message.Message.{Message}
 use Rattle.jobsheet.specs.declared.jobs.Job.{Job}
 use Rattle.jobsheet.specs.Values.{code_value, coder_value, message_value}
 use Rattle.jobsheet.specs.Jobs.{Asked, column}
 
--- a borrowed word and a job by what they hold
-abbrev pub held : {F : Type 0} → Result (Bor (List ℕ)) F → Result (List ℕ) F
-held (Ok w) = Ok w.now
+-- a message and a job by what they hold
+abbrev pub held : {F : Type 0} → Result Message F → Result (List ℕ) F
+held (Ok m) = Ok m.digits.now
 held (Err f) = Err f
 
 abbrev pub asked : Job → Asked
-asked j = record { code = j.code; coder = j.coder; message = j.message.now }
+asked j = record { code = j.code; coder = j.coder; message = j.message.digits.now }
 
 abbrev pub all_asked : {F : Type 0} → Result Job F → Result Asked F
 all_asked (Ok j) = Ok (asked j)
@@ -49,11 +49,6 @@ abbrev pub with_value : Asked → Name → List ℕ → Result Asked ValueFault
 with_value a name.Code w = with_code a (code_value w)
 with_value a name.Coder w = with_coder a (coder_value w)
 with_value a name.Message w = with_message a (message_value w)
-
--- a fault with the column that it is of
-abbrev pub placed : {X : Type 0} → ℕ → Result X ValueFault → Result X (ℕ × ValueFault)
-placed k (Ok x) = Ok x
-placed k (Err f) = Err (k, f)
 
 -- the job with the value in a column, or the line's fault there
 abbrev pub filled : ℕ → Asked → Name → List ℕ → Result Asked LineFault

@@ -15,3 +15,4 @@ pub mod Tokens
 pub mod Recognition
 pub mod JobSteps
 pub mod Steps
+pub mod Printers

@@ -1,8 +1,9 @@
 -- The parity of a message, a then b, in hex with a message's digits.
 use Rattle.std.specs.Prelude.{ℕ, ◌+◌, ◌*◌, ◌/◌, ◌%◌, cond, List, map, nat_lt}
 use Rattle.std.specs.List.{range_with_len}
-use Rattle.element.specs.declared.Bit.{Bit}
-use Rattle.element.specs.declared.Bit.TheVariants.{Zero, One}
+use Rattle.element.specs.Bits.{weight}
+use Rattle.element.specs.declared.bits.Bit.{Bit}
+use Rattle.element.specs.declared.bits.Bit.TheVariants.{Zero}
 use Rattle.element.specs.Bits.{bit_plus}
 use Rattle.qc.specs.Shape.{M}
 use Rattle.qc.specs.Segments.{segments}
@@ -16,10 +17,6 @@ unfoldable pub parity_bit : Code → List Bit → ℕ → Bit
 parity_bit code message i =
     let m = (shape_of code).m in
     parity Zero bit_plus (shape_of code) (tables_of code) (segments Zero m message) (i / m) (i % m)
-
-abbrev pub weight : Bit → ℕ
-weight Zero = 0
-weight One = 1
 
 -- the digit of a number below 16
 abbrev pub hex_digit : ℕ → ℕ

@@ -1,5 +1,5 @@
 -- What is printed: the heading, a line for a good job line, and a line for a refusal.
-use Rattle.std.specs.Prelude.{ℕ, ◌+◌, List, ◌++◌, length, take, drop, codes, decimal, slice_index}
+use Rattle.std.specs.Prelude.{ℕ, List, ◌++◌, length, drop, codes, decimal, slice_index}
 use Rattle.refusal.specs.Outcome.{Numbered}
 use Rattle.ar4ja.specs.declared.codes.Code.{Code}
 use Rattle.ar4ja.specs.Codes.{number_of}
@@ -26,9 +26,6 @@ refusal_text r = decimal (slice_index r.values 0) ++ (codes ",refused," ++ (deci
 abbrev pub ended : List ℕ → List ℕ
 ended line = line ++ codes "\n"
 
--- a buffer with a text written at a place, and at its front
-abbrev pub printed : List ℕ → ℕ → List ℕ → List ℕ
-printed old at text = take at old ++ (text ++ drop (at + length text) old)
-
+-- a buffer with a text written at its front
 abbrev pub front : List ℕ → List ℕ → List ℕ
 front text old = text ++ drop (length text) old

@@ -1,5 +1,6 @@
 -- What a line of a sheet says and prints, and what is printed for a whole sheet.
 use Rattle.std.specs.Prelude.{ℕ, ◌+◌, cond, List, [], ◌∷◌, ◌++◌, length, Some, None, Ok, Err, Option, Result, nat_lt}
+use Rattle.std.specs.Option.{ok_or}
 use Rattle.refusal.specs.Outcome.{Numbered}
 use Rattle.jobsheet.specs.declared.names.Order.{Order}
 use Rattle.jobsheet.specs.declared.faults.LineFault.{LineFault}
@@ -31,8 +32,7 @@ line_answer o n line = at_line n (line_job o (words line))
 
 -- the order of a sheet, or why it is turned down: over 65,536 bytes, or no names line
 abbrev pub by_names : Option Order → Result Order SheetFault
-by_names (Some o) = Ok o
-by_names None = Err Names
+by_names o = ok_or o Names
 
 abbrev pub opening : List ℕ → Result Order SheetFault
 opening text = cond (nat_lt 65536 (length text)) (Err TooLong) (by_names (sheet_order (lines text)))

@@ -1,17 +1,19 @@
 -- Inner contracts: how the code goes through a sheet, the place where a line ends, and where the next one begins.
 use Rattle.std.specs.Prelude.{◌≡◌, ℕ, ◌-◌, ◌<◌, ◌≤◌, List, ◌∷◌, length, take, drop, Ok, Err, Result}
+use Rattle.jobsheet.specs.declared.line.Line.{Line}
 use Rattle.jobsheet.specs.declared.names.Order.{Order}
 use Rattle.jobsheet.specs.declared.faults.SheetFault.{SheetFault}
 use Rattle.jobsheet.specs.Text.{lines}
 use Rattle.jobsheet.specs.Printout.{opening, others}
 
--- the line at a place ends before `end`, and the next begins at `next`
-pub record LineAt (text : List ℕ) (at end next : ℕ) : Type 0 where
-  pub starts : at ≤ end
-  pub ends : end ≤ length text
+-- the line at a place of the sheet, and the next begins at `next`
+pub record LineAt (text : List ℕ) (at : ℕ) (line : Line) (next : ℕ) : Type 0 where
+  pub whole : line.text.now ≡ text
+  pub begins : line.from ≡ at
+  pub starts : at ≤ line.end
   pub within : next ≤ length text
   pub rest : lines (drop next text) ≡ others (lines (drop at text))
-  pub there : at < length text → lines (drop at text) ≡ take (end - at) (drop at text) ∷ lines (drop next text)
+  pub there : at < length text → lines (drop at text) ≡ take (line.end - at) (drop at text) ∷ lines (drop next text)
   pub goes : at < length text → at < next
 
 -- the order of a sheet with the place of its second line, or its fault

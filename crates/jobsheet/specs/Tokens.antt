@@ -1,7 +1,8 @@
 -- Inner contracts: tokens, the parts of a sheet that its words are.
-use Rattle.std.specs.Prelude.{◌≡◌, ℕ, ◌+◌, ◌<◌, ◌≤◌, List, [], ◌∷◌, length, take, drop, Some, None, Option}
+use Rattle.std.specs.Prelude.{◌≡◌, ℕ, ◌+◌, ◌-◌, ◌<◌, ◌≤◌, List, [], ◌∷◌, length, take, drop, Some, None, Option}
 use Rattle.std.specs.Borrow.{Bor}
 use Rattle.jobsheet.specs.Splitting.{words_from}
+use Rattle.jobsheet.specs.declared.line.Line.{Line}
 use Rattle.jobsheet.specs.declared.token.Kind.{Kind}
 use Rattle.jobsheet.specs.declared.token.Kind.TheVariants.{Names, Values}
 use Rattle.jobsheet.specs.declared.token.Words.{Words}
@@ -31,18 +32,24 @@ spelled (Name w p) ws = w.now ∷ ws
 spelled (Value w p) ws = w.now ∷ ws
 spelled (End w p) ws = []
 
--- the token is the part of the sheet at its place, and it is the next word of the line, or its end
-pub record Stands (t : Token) (kind : Kind) (text : List ℕ) (from end : ℕ) : Type 0 where
-  pub case : Due t kind from end
-  pub there : part t ≡ take (length (part t)) (drop (place t) text)
-  pub next : words_from text from end ≡ spelled t (words_from text (place t + length (part t) + 1) end)
-  pub within : place t + length (part t) ≤ end
+-- the bytes of a line that are yet to be read, and the words that they are
+abbrev pub rest : Line → List ℕ
+rest l = take (l.end - l.from) (drop l.from l.text.now)
 
--- the word of a token, with the place past its separator
-abbrev pub Worded : Token → Option (Bor (List ℕ) × ℕ) → Type 0
-Worded (Name w p) o = o ≡ Some (w, p + length w.now + 1)
-Worded (Value w p) o = o ≡ Some (w, p + length w.now + 1)
-Worded (End w p) o = o ≡ None
+abbrev pub left : Line → List (List ℕ)
+left l = words_from l.text.now l.from l.end
+
+-- the token is the part of the sheet at its place, and it is the next word of the line, or its end
+pub record Stands (t : Token) (kind : Kind) (l : Line) : Type 0 where
+  pub case : Due t kind l.from l.end
+  pub there : part t ≡ take (length (part t)) (drop (place t) l.text.now)
+  pub next : left l ≡ spelled t (words_from l.text.now (place t + length (part t) + 1) l.end)
+  pub within : place t + length (part t) ≤ l.end
+
+-- the next word was read off a line, or there was none
+abbrev pub Taken : Option (Bor (List ℕ)) → Line → Line → Type 0
+Taken (Some w) l m = left l ≡ w.now ∷ left m
+Taken None l m = left l ≡ []
 
 -- the three words of a line, or another number of them
 abbrev pub Three : Option Words → List (List ℕ) → Type 0

@@ -1,10 +1,10 @@
 -- The values of a job line: what a word says as a code, as a coder and as a message, or its fault.
-use Rattle.std.specs.Prelude.{ℕ, ◌-◌, ◌/◌, ◌%◌, ◌^◌, Bool, true, cond, ◌&&◌, ◌||◌, List, [], ◌∷◌, map, length, Ok, Err, codes, Result, ◌==◌, nat_le, slice_index}
-use Rattle.std.specs.List.{range_with_len}
+use Rattle.std.specs.Prelude.{ℕ, ◌-◌, ◌/◌, ◌%◌, ◌^◌, Bool, cond, ◌&&◌, ◌||◌, List, [], ◌∷◌, map, length, Ok, Err, codes, Result, ◌==◌, nat_le, slice_index}
+use Rattle.std.specs.List.{list_all, range_with_len}
 use Rattle.std.specs.Str.{bytes_eq}
 use Rattle.refusal.specs.Outcome.{Outcome, Outcome.done, Outcome.refused}
-use Rattle.element.specs.declared.Bit.{Bit}
-use Rattle.element.specs.declared.Bit.TheVariants.{Zero, One}
+use Rattle.element.specs.declared.bits.Bit.{Bit}
+use Rattle.element.specs.declared.bits.Bit.TheVariants.{Zero, One}
 use Rattle.ar4ja.specs.declared.codes.Code.{Code}
 use Rattle.ar4ja.specs.declared.codes.CodeFault.TheVariants.{Unknown}
 use Rattle.ar4ja.specs.Codes.{named}
@@ -24,8 +24,7 @@ abbrev pub hex_value : ℕ → ℕ
 hex_value b = cond (nat_le b 57) (b - 48) (b - 55)
 
 abbrev pub all_hex : List ℕ → Bool
-all_hex [] = true
-all_hex (b ∷ bs) = is_hex b && all_hex bs
+all_hex = list_all is_hex
 
 -- a code is one digit, the number of a code
 abbrev pub code_named : Outcome Code → Result Code ValueFault

@@ -1,13 +1,14 @@
 // A job's message spread to bits, and coded.
 ghost use Rattle.std.specs.Prelude.{◌≡◌, ℕ, ◌+◌, ◌-◌, ◌*◌, ◌/◌, ◌%◌, ◌^◌, ◌<◌, ◌≤◌, true, ◌++◌, length, drop, slice_index_or};
-ghost use Rattle.element.specs.declared.Bit.TheVariants.{Zero};
+ghost use Rattle.element.specs.declared.bits.Bit.TheVariants.{Zero};
 ghost use Rattle.element.specs.Bits.{bit_plus};
 ghost use Rattle.qc.specs.Shape.{M, whole};
 ghost use Rattle.qc.specs.Coding.{encoded};
 ghost use Rattle.ar4ja.specs.Codes.{shape_of, tables_of};
-ghost use Rattle.jobsheet.specs.Values.{is_hex, hex_value, all_hex, one_if, message_bits};
+ghost use Rattle.jobsheet.specs.Values.{is_hex, hex_value, one_if, message_bits};
 ghost use Rattle.jobsheet.specs.Parity.{parity_bit};
 
+use crate::message::Message;
 use crate::names::CoderName;
 use ar4ja::Code;
 use element::Bit;
@@ -32,21 +33,17 @@ fn bit_of(digit: u8, place: usize) -> Bit
     requires { (is_hex digit ≡ true) × (place < 4) }
     ensures { result ≡ one_if (hex_value digit / 2 ^ (3 - place) % 2) }
 {
-    if (hex_value(digit) >> (3 - place)) % 2 == 0 {
-        Bit::Zero
-    } else {
-        Bit::One
-    }
+    Bit::from((hex_value(digit) >> (3 - place)) % 2 != 0)
 }
 
-// Writes the bits of a message's digits to the front of the run.
-fn spread(digits: &[u8], run: &mut [Bit])
-    requires digits { (length digits.now ≡ 256) × (all_hex digits.now ≡ true) }
-    requires room { 1024 ≤ length run.old }
-    ensures { run.new ≡ message_bits digits.now ++ drop 1024 run.old }
+// Writes the bits of a message to the front of the run.
+fn spread(message: Message<'_>, run: &mut [Bit])
+    requires { 1024 ≤ length run.old }
+    ensures { run.new ≡ message_bits message.entry.digits.now ++ drop 1024 run.old }
 {
-    for i in 0..MESSAGE_BITS {
-        run[i] = bit_of(digits[i / 4], i % 4);
+    let digits = message.digits;
+    for (i, bit) in run[..MESSAGE_BITS].iter_mut().enumerate() {
+        *bit = bit_of(digits[i / 4], i % 4);
     }
 }
 
@@ -62,11 +59,10 @@ fn encode(coder: CoderName, code: Code, run: &mut [Bit])
 }
 
 // Codes a message in a run: its parity then stands behind its bits.
-pub(crate) fn code_message(code: Code, coder: CoderName, digits: &[u8], run: &mut [Bit])
-    requires digits { (length digits.now ≡ 256) × (all_hex digits.now ≡ true) }
-    requires room { 2560 ≤ length run.old }
-    ensures { (i : ℕ) → i < 2 * M (shape_of code) → slice_index_or run.new (1024 + i) Zero ≡ parity_bit code (message_bits digits.now) i }
+pub(crate) fn code_message(code: Code, coder: CoderName, message: Message<'_>, run: &mut [Bit])
+    requires { 2560 ≤ length run.old }
+    ensures { (i : ℕ) → i < 2 * M (shape_of code) → slice_index_or run.new (1024 + i) Zero ≡ parity_bit code (message_bits message.entry.digits.now) i }
 {
-    spread(digits, run);
+    spread(message, run);
     encode(coder, code, run);
 }

@@ -49,7 +49,7 @@ pub enum LineFault {
 }
 
 impl LineFault {
-    // The column of the fault; 0 is the whole line.
+    // The column of the fault; 0 is the whole line, which is how it is printed.
     fn column(&self) -> u32
         ensures { result ≡ slice_index (line_fault self.now).values 0 }
     {
@@ -95,7 +95,7 @@ pub enum SheetFault {
 }
 
 impl SheetFault {
-    // The line of the fault; 0 is the whole sheet.
+    // The line of the fault; 0 is the whole sheet, which is how it is printed.
     pub fn line(&self) -> u32
         ensures { result ≡ fault_line self.now }
     {
@@ -106,7 +106,7 @@ impl SheetFault {
         }
     }
 
-    // The column of the fault; 0 is the whole line.
+    // The column of the fault; 0 is the whole line, which is how it is printed.
     pub fn column(&self) -> u32
         ensures { result ≡ fault_column self.now }
     {

@@ -6,7 +6,9 @@
 mod coding;
 mod faults;
 mod jobs;
+mod line;
 mod lines;
+mod message;
 mod names;
 mod opening;
 mod order;

@@ -13,7 +13,7 @@ pub enum Name {
 }
 
 impl Name {
-    // The name that a word is.
+    // The name that a word is. `TryFrom` wants an error type, and there is nothing that it would tell.
     pub(crate) fn of(word: &[u8]) -> Option<Name>
         ensures { Named word.now result }
     {
@@ -38,7 +38,7 @@ pub enum Order {
 }
 
 impl Order {
-    // The order of three names, if each stands once.
+    // The order of three names, if each stands once. `TryFrom` wants an error type, and there is nothing that it would tell.
     pub(crate) fn of(first: Name, second: Name, third: Name) -> Option<Order>
         ensures { Arranged first second third result }
     {
@@ -76,7 +76,7 @@ pub enum CoderName {
 }
 
 impl CoderName {
-    // The coder that a word names.
+    // The coder that a word names. `TryFrom` wants an error type, and there is nothing that it would tell.
     pub(crate) fn of(word: &[u8]) -> Option<CoderName>
         ensures { CoderNamed word.now result }
     {
@@ -86,6 +86,7 @@ impl CoderName {
             _ => None,
         }
     }
+
     // Its word.
     pub(crate) fn word(self) -> &'static [u8]
         ensures { result.now ≡ coder_word self }

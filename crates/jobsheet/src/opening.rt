@@ -10,8 +10,7 @@ use crate::faults::SheetFault;
 use crate::lines::line_at;
 use crate::names::Order;
 use crate::order::read_names;
-use crate::printing::put;
-use crate::report::print_refusal;
+use crate::printing::Printer;
 use crate::sheet::Sheet;
 
 // No output buffer is smaller.
@@ -22,7 +21,7 @@ pub const LIMIT: usize = 65536;
 
 const HEADING: &[u8] = b"line,code,coder,parity\n";
 
-// How many bytes a call wrote, and the sheet's fault if there is one.
+// How many bytes a call wrote, and the sheet's fault if there is one: no `Result`, since a refusal is printed too.
 #[derive(Clone, Copy)]
 pub struct Printed {
     pub count: usize,
@@ -48,11 +47,9 @@ fn read_order(text: &[u8]) -> Result<(Order, usize), SheetFault>
     if text.len() > LIMIT {
         return Err(SheetFault::TooLong);
     }
-    let (end, next) = line_at(text, 0);
-    match read_names(text, end) {
-        Some(order) => Ok((order, next)),
-        None => Err(SheetFault::Names),
-    }
+    let (line, next) = line_at(text, 0);
+    let order = read_names(line).ok_or(SheetFault::Names)?;
+    Ok((order, next))
 }
 
 impl<'a> Sheet<'a> {
@@ -78,7 +75,8 @@ impl<'a> Sheet<'a> {
         if out.len() < ROOM {
             return (Sheet::closed(text), Printed::nothing(SheetFault::Buffer));
         }
-        let count = put(out, 0, HEADING);
+        let mut printer = Printer::new(out);
+        printer.text(HEADING);
         match read_order(text) {
             Ok((order, at)) => (
                 Sheet {
@@ -87,15 +85,21 @@ impl<'a> Sheet<'a> {
                     line: 2,
                     order,
                 },
-                Printed { count, fault: None },
-            ),
-            Err(fault) => (
-                Sheet::closed(text),
                 Printed {
-                    count: print_refusal(out, count, fault),
-                    fault: Some(fault),
+                    count: printer.at,
+                    fault: None,
                 },
             ),
+            Err(fault) => {
+                printer.refusal(fault);
+                (
+                    Sheet::closed(text),
+                    Printed {
+                        count: printer.at,
+                        fault: Some(fault),
+                    },
+                )
+            }
         }
     }
 }

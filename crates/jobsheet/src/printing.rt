@@ -1,65 +1,28 @@
-// Text written into a buffer, piece by piece.
-ghost use Rattle.std.specs.Prelude.{◌≡◌, ◌+◌, ◌*◌, ◌<◌, ◌≤◌, [], ◌∷◌, map, length, get_or, decimal, slice_index_or};
+// Text printed into a buffer, piece by piece.
+ghost use Rattle.std.specs.Prelude.{◌≡◌, ◌/◌, [], ◌∷◌, map, length, get_or, decimal};
 ghost use Rattle.std.specs.List.{range_with_len};
-ghost use Rattle.element.specs.declared.Bit.TheVariants.{Zero};
-ghost use Rattle.jobsheet.specs.Parity.{weight, hex_digit, nibble, digit_at};
-ghost use Rattle.jobsheet.specs.Printing.{printed};
+ghost use Rattle.element.specs.declared.bits.Bit.TheVariants.{Zero};
+ghost use Rattle.jobsheet.specs.Parity.{hex_digit, nibble, digit_at};
+ghost use Rattle.jobsheet.specs.Printers.{HasRoom, Adds};
 
 use element::Bit;
 
-// Writes a text at a place, and answers the place after it.
-pub(crate) fn put(out: &mut [u8], at: usize, text: &[u8]) -> usize
-    requires { at + length text.now ≤ length out.old }
-    ensures at { result ≡ at + length text.now }
-    ensures out { out.new ≡ printed out.old at text.now }
-{
-    let end = at + text.len();
-    out[at..end].copy_from_slice(text);
-    end
+// A buffer, with how many bytes are printed at its front.
+#[derive(Drop)]
+pub struct Printer<'a> {
+    out: &'a mut [u8],
+    pub(crate) at: usize,
 }
 
-// Writes one byte.
-fn put_byte(out: &mut [u8], at: usize, b: u8) -> usize
-    requires { at < length out.old }
-    ensures at { result ≡ at + 1 }
-    ensures out { out.new ≡ printed out.old at (b ∷ []) }
+// The digit of four bits, the first the most significant. Its letter is a capital, which `char::from_digit` does not give.
+fn digit_of(four: &[Bit]) -> u8
+    requires { length four.now ≡ 4 }
+    ensures { result ≡ hex_digit (nibble (get_or four.now 0 Zero) (get_or four.now 1 Zero) (get_or four.now 2 Zero) (get_or four.now 3 Zero)) }
 {
-    put(out, at, &[b])
-}
-
-// Writes a number in decimal.
-pub(crate) fn put_decimal(out: &mut [u8], at: usize, n: u32) -> usize
-    requires { at + length (decimal n) ≤ length out.old }
-    ensures at { result ≡ at + length (decimal n) }
-    ensures out { out.new ≡ printed out.old at (decimal n) }
-{
-    if n < 10 {
-        return put_byte(out, at, b'0' + n as u8);
-    }
-    let next = put_decimal(out, at, n / 10);
-    put_byte(out, next, b'0' + (n % 10) as u8)
-}
-
-// A bit as a number.
-fn weight_of(b: Bit) -> u8
-    ensures value { result ≡ weight b }
-    ensures small { result < 2 }
-{
-    match b {
-        Bit::Zero => 0,
-        Bit::One => 1,
-    }
-}
-
-// The digit of four bits.
-fn digit_of(bits: &[Bit], from: usize) -> u8
-    requires { from + 4 ≤ length bits.now }
-    ensures { result ≡ hex_digit (nibble (slice_index_or bits.now from Zero) (slice_index_or bits.now (from + 1) Zero) (slice_index_or bits.now (from + 2) Zero) (slice_index_or bits.now (from + 3) Zero)) }
-{
-    let value = 8 * weight_of(bits[from])
-        + 4 * weight_of(bits[from + 1])
-        + 2 * weight_of(bits[from + 2])
-        + weight_of(bits[from + 3]);
+    let value = 8 * u8::from(four[0])
+        + 4 * u8::from(four[1])
+        + 2 * u8::from(four[2])
+        + u8::from(four[3]);
     if value < 10 {
         b'0' + value
     } else {
@@ -67,15 +30,52 @@ fn digit_of(bits: &[Bit], from: usize) -> u8
     }
 }
 
-// Writes bits in hex, four to a digit.
-pub(crate) fn put_hex(out: &mut [u8], at: usize, bits: &[Bit], count: usize) -> usize
-    requires room { at + count ≤ length out.old }
-    requires held { 4 * count ≤ length bits.now }
-    ensures at { result ≡ at + count }
-    ensures out { out.new ≡ printed out.old at (map (digit_at (λ i. get_or bits.now i Zero)) (range_with_len 0 count)) }
-{
-    for k in 0..count {
-        out[at + k] = digit_of(bits, 4 * k);
+impl<'a> Printer<'a> {
+    // A buffer with nothing printed.
+    pub(crate) fn new(out: &'a mut [u8]) -> Printer<'a>
+        ensures { (result.out ≡ out.entry) × (result.at ≡ 0) }
+    {
+        Printer { out, at: 0 }
     }
-    at + count
+
+    // Prints a text.
+    pub(crate) fn text(&mut self, text: &[u8])
+        requires { HasRoom self.old (length text.now) }
+        ensures { Adds self.old self.new text.now }
+    {
+        let end = self.at + text.len();
+        let out = &mut *self.out;
+        out[self.at..end].copy_from_slice(text);
+        self.at = end;
+    }
+
+    // Prints one byte.
+    fn byte(&mut self, b: u8)
+        requires { HasRoom self.old 1 }
+        ensures { Adds self.old self.new (b ∷ []) }
+    {
+        self.text(&[b])
+    }
+
+    // Prints a number. `write!` promises nothing of when it fails, and `to_string` allocates.
+    pub(crate) fn decimal(&mut self, n: u32)
+        requires { HasRoom self.old (length (decimal n)) }
+        ensures { Adds self.old self.new (decimal n) }
+    {
+        if n < 10 {
+            return self.byte(b'0' + n as u8);
+        }
+        self.decimal(n / 10);
+        self.byte(b'0' + (n % 10) as u8)
+    }
+
+    // Prints bits in hex, four to a digit.
+    pub(crate) fn hex(&mut self, bits: &[Bit])
+        requires { HasRoom self.old (length bits.now / 4) }
+        ensures { Adds self.old self.new (map (digit_at (λ i. get_or bits.now i Zero)) (range_with_len 0 (length bits.now / 4))) }
+    {
+        for four in bits.chunks_exact(4) {
+            self.byte(digit_of(four));
+        }
+    }
 }

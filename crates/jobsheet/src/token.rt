@@ -1,8 +1,7 @@
 // The words of a line. Each one that is read stays a part of the sheet.
-ghost use Rattle.std.specs.Prelude.{◌+◌, ◌^◌, ◌<◌, ◌≤◌, length};
-ghost use Rattle.jobsheet.specs.Splitting.{words_from};
-ghost use Rattle.jobsheet.specs.Tokens.{part, place, Stands, Worded, Three};
+ghost use Rattle.jobsheet.specs.Tokens.{left, Stands, Taken, Three};
 
+use crate::line::Line;
 use crate::lines::len_before;
 
 // A word that was read, or the end of its line: a part of the sheet, with its place in it.
@@ -28,56 +27,50 @@ pub struct Words<'a> {
     pub third: &'a [u8],
 }
 
-impl<'a> Token<'a> {
-    // The token at a place of a line that ends at `end`.
-    fn at(text: &'a [u8], from: usize, end: usize, kind: Kind) -> Token<'a>
-        requires { end ≤ length text.now }
-        ensures { Stands result kind text.now from end }
+impl<'a> Line<'a> {
+    // The token that it begins with.
+    fn token(&self, kind: Kind) -> Token<'a>
+        ensures { Stands result kind self.now }
     {
-        if from > end {
-            return Token::End(&text[end..end], end);
+        let text = self.text;
+        if self.from > self.end {
+            return Token::End(&text[self.end..self.end], self.end);
         }
-        let word = &text[from..from + len_before(&text[from..end], ',')];
+        let end = self.from + len_before(&text[self.from..self.end], ',');
+        let word = &text[self.from..end];
         match kind {
-            Kind::Names => Token::Name(word, from),
-            Kind::Values => Token::Value(word, from),
+            Kind::Names => Token::Name(word, self.from),
+            Kind::Values => Token::Value(word, self.from),
         }
     }
 
-    // The word, and the place past its separator.
-    fn word(self) -> Option<(&'a [u8], usize)>
-        requires { place self + length (part self) < 2 ^ 63 }
-        ensures { Worded self.entry result }
+    // The next word, which is then read.
+    fn word(&mut self, kind: Kind) -> Option<&'a [u8]>
+        ensures { Taken result self.old self.new }
     {
-        match self {
-            Token::Name(word, place) | Token::Value(word, place) => Some((
-                word,
-                place + word.len() + 1,
-            )),
+        match self.token(kind) {
+            Token::Name(word, place) | Token::Value(word, place) => {
+                self.from = place + word.len() + 1;
+                Some(word)
+            }
             Token::End(_, _) => None,
         }
     }
-}
 
-// The three words of the line from a place to its end.
-pub(crate) fn three_words<'a>(
-    text: &'a [u8],
-    from: usize,
-    end: usize,
-    kind: Kind,
-) -> Option<Words<'a>>
-    requires { end ≤ length text.now }
-    ensures { Three result (words_from text.now from end) }
-{
-    let (first, next) = Token::at(text, from, end, kind).word()?;
-    let (second, next) = Token::at(text, next, end, kind).word()?;
-    let (third, next) = Token::at(text, next, end, kind).word()?;
-    match Token::at(text, next, end, kind) {
-        Token::End(_, _) => Some(Words {
-            first,
-            second,
-            third,
-        }),
-        _ => None,
+    // Its words, if there are three.
+    pub(crate) fn words(mut self, kind: Kind) -> Option<Words<'a>>
+        ensures { Three result (left self.entry) }
+    {
+        let first = self.word(kind)?;
+        let second = self.word(kind)?;
+        let third = self.word(kind)?;
+        match self.token(kind) {
+            Token::End(_, _) => Some(Words {
+                first,
+                second,
+                third,
+            }),
+            _ => None,
+        }
     }
 }

@@ -7,16 +7,6 @@ use crate::opening::ROOM;
 use crate::sheet::Sheet;
 use std::alloc::AllocError;
 
-// Adds what was written to the front of a buffer.
-fn append(all: &mut Vec<u8>, out: &[u8], count: usize) -> Result<(), AllocError>
-    requires { count ≤ length out.now }
-    ensures items { all.new.items ≡ (if is_ok result then all.old.items ++ take count out.now else all.old.items) }
-    ensures capacity { vec_capacity all.old ≤ vec_capacity all.new }
-    ensures succeeds { vec_len all.old + count ≤ vec_capacity all.old → is_ok result ≡ true }
-{
-    all.extend_from_slice(&out[0..count])
-}
-
 // Adds to `all` what is printed for a sheet: the heading, and then a line for each job line of the sheet. The only
 // error is want of memory, after which a front part of it is added; where `all` has the capacity there is none.
 pub fn work(text: &[u8], all: &mut Vec<u8>) -> Result<(), AllocError>
@@ -27,10 +17,11 @@ pub fn work(text: &[u8], all: &mut Vec<u8>) -> Result<(), AllocError>
 {
     let mut out = [0u8; ROOM];
     let (mut sheet, opened) = Sheet::open(text, &mut out);
-    append(all, &out, opened.count)?;
+    all.extend_from_slice(&out[..opened.count])?;
+    // No `for`: each line is worked into a buffer that is lent, which no iterator is handed.
     while sheet.has_line() {
         let worked = sheet.job_line(&mut out);
-        append(all, &out, worked.count)?;
+        all.extend_from_slice(&out[..worked.count])?;
     }
     Ok(())
 }

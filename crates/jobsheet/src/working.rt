@@ -11,7 +11,7 @@ use crate::faults::SheetFault;
 use crate::jobs::{Job, read_job};
 use crate::lines::line_at;
 use crate::opening::{Printed, ROOM};
-use crate::report::{print_job, print_refusal};
+use crate::printing::Printer;
 use crate::sheet::Sheet;
 
 impl<'a> Sheet<'a> {
@@ -28,16 +28,12 @@ impl<'a> Sheet<'a> {
         ensures answer { all_asked result ≡ next_answer self.old.order self.old.line (lines (drop self.old.at self.old.text.now)) }
         ensures after { standing self.new ≡ next_standing self.old.order self.old.line (lines (drop self.old.at self.old.text.now)) }
     {
-        let line = self.line;
-        let text = self.text;
-        let (end, next) = line_at(text, self.at);
-        let job = read_job(self.order, text, self.at, end);
+        let number = self.line;
+        let (line, next) = line_at(self.text, self.at);
+        let job = read_job(self.order, line);
         self.at = next;
-        self.line = line + 1;
-        match job {
-            Ok(job) => Ok(job),
-            Err(fault) => Err(SheetFault::from((line, fault))),
-        }
+        self.line = number + 1;
+        job.map_err(|fault| SheetFault::from((number, fault)))
     }
 
     // Works the next line, and prints what it gives or why it is refused.
@@ -54,15 +50,22 @@ impl<'a> Sheet<'a> {
             return Printed::nothing(SheetFault::NoLine);
         }
         let line = self.line;
+        let mut printer = Printer::new(out);
         match self.next_job() {
-            Ok(job) => Printed {
-                count: print_job(out, line, job),
-                fault: None,
-            },
-            Err(fault) => Printed {
-                count: print_refusal(out, 0, fault),
-                fault: Some(fault),
-            },
+            Ok(job) => {
+                printer.job(line, job);
+                Printed {
+                    count: printer.at,
+                    fault: None,
+                }
+            }
+            Err(fault) => {
+                printer.refusal(fault);
+                Printed {
+                    count: printer.at,
+                    fault: Some(fault),
+                }
+            }
         }
     }
 }

@@ -188,10 +188,7 @@ mod tests {
 
     // The number of a fault; 0 where there is none.
     fn number(fault: Option<SheetFault>) -> u32 {
-        match fault {
-            Some(f) => f.number(),
-            None => 0,
-        }
+        fault.map_or(0, |f| f.number())
     }
 
     #[test]

@@ -4,4 +4,4 @@ use Rattle.jobsheet.specs.Values.{message_bit}
 use Rattle.jobsheet.proofs.coding.spread.Given as goal
 
 abbrev pub invariant-loop-i : goal.invariant-loop-i
-invariant-loop-i l = l.run ≡ map (message_bit l.digits) (range_with_len 0 l.i) ++ drop l.i l.initial.run
+invariant-loop-i l = l.bit-items ≡ map (message_bit l.digits) (range_with_len 0 l.i) ++ drop l.i l.initial.bit-items

@@ -1,11 +1,11 @@
-use Rattle.std.proofs.Common.{ℕ, List, length, Ok, Err, ap, ◌∙◌, arith}
-use Rattle.jobsheet.specs.JobSteps.{asked}
+use Rattle.std.proofs.Common.{◌≡◌, ℕ, List, length, Err, ap, ◌∙◌, arith, rules}
 use Rattle.jobsheet.specs.Refusals.{told}
 use Rattle.jobsheet.specs.Printing.{front}
 use Rattle.jobsheet.specs.Printout.{refusal_of}
-use Rattle.jobsheet.specs.Sheets.{standing}
+use Rattle.jobsheet.specs.Sheets.{standing, job_printed}
+use Rattle.jobsheet.proofs.Fronts.{adds_front}
 use Rattle.jobsheet.proofs.Stepping.{none_left}
-use Rattle.jobsheet.proofs.Answering.{printed_front, left_there, next_message, worked_answer, worked_text, over_answer, over_text, over_standing, job_standing_is}
+use Rattle.jobsheet.proofs.Answering.{left_there, worked_text, over_answer, over_text, over_standing}
 use Rattle.jobsheet.proofs.sheet.Sheet.job_line.Goals as goal
 
 pub returns-then-self : goal.returns-then-self
@@ -21,35 +21,18 @@ returns-then-self c =
       sheet = over_standing (length old) (standing sheet) c.if-out-lt-ROOM.false none;
     }
 
-pub print_job-requires : goal.print_job-requires
-print_job-requires c =
+pub returns-in-Err-clause-count : goal.returns-in-Err-clause-count
+returns-in-Err-clause-count c =
     let sheet = c.args.self.now in
-    let m = next_message sheet.order sheet.line _ (asked c.in-Ok.job) c.in-Ok.ensures.answer in
-    record { room = c.if-out-lt-ROOM.false; line = omega (arith, sheet.inside, sheet.few, c.if-self.false); message = (m.long, m.hex) }
+    let some = left_there sheet.text.now sheet.at (omega (arith, sheet.inside, c.if-self.false)) in
+    omega (arith, c.refusal.ensures.at, c.new-printer.ensures.1, ap length (worked_text (length c.args.out.now) (standing sheet) c.if-out-lt-ROOM.false (Err c.in-Err.fault) c.in-Err.ensures.answer some))
 
-pub returns-in-Ok : goal.returns-in-Ok
-returns-in-Ok c =
+pub returns-in-Err-clause-out : goal.returns-in-Err-clause-out
+returns-in-Err-clause-out c =
     let sheet = c.args.self.now in
     let old = c.args.out.now in
     let some = left_there sheet.text.now sheet.at (omega (arith, sheet.inside, c.if-self.false)) in
-    let text = worked_text (length old) (standing sheet) c.if-out-lt-ROOM.false (Ok (asked c.in-Ok.job)) c.in-Ok.ensures.answer some in
-    record {
-      count = c.print_job.ensures.count ∙ ap length text;
-      fault = ap refusal_of (worked_answer (length old) (standing sheet) c.if-out-lt-ROOM.false (Ok (asked c.in-Ok.job)) c.in-Ok.ensures.answer);
-      out = c.print_job.ensures.out ∙ printed_front old _ ∙ ap (λ (t : List ℕ). front t old) text;
-      sheet = c.next_job.ensures.after ∙ job_standing_is (length old) (standing sheet) c.if-out-lt-ROOM.false;
-    }
-
-pub returns-in-Err : goal.returns-in-Err
-returns-in-Err c =
-    let sheet = c.args.self.now in
-    let old = c.args.out.now in
-    let fault = c.in-Err.fault in
-    let some = left_there sheet.text.now sheet.at (omega (arith, sheet.inside, c.if-self.false)) in
-    let text = worked_text (length old) (standing sheet) c.if-out-lt-ROOM.false (Err fault) c.in-Err.ensures.answer some in
-    record {
-      count = omega (arith, c.print_refusal.ensures.at, ap length text);
-      fault = ap refusal_of (worked_answer (length old) (standing sheet) c.if-out-lt-ROOM.false (Err fault) c.in-Err.ensures.answer);
-      out = c.print_refusal.ensures.out ∙ printed_front old _ ∙ ap (λ (t : List ℕ). front t old) text;
-      sheet = c.next_job.ensures.after ∙ job_standing_is (length old) (standing sheet) c.if-out-lt-ROOM.false;
-    }
+    let e : c.refusal.new.self.out.now ≡ front (job_printed (length old) (standing sheet)) old
+    = adds_front old c.refusal.ensures (ap (λ b. b.now) c.new-printer.ensures.0) c.new-printer.ensures.1
+    ∙ ap (λ (t : List ℕ). front t old) (worked_text (length old) (standing sheet) c.if-out-lt-ROOM.false (Err c.in-Err.fault) c.in-Err.ensures.answer some) in
+    search rules
