@@ -7,12 +7,10 @@
 
 use ar4ja::Code;
 use element::{Bit, Element, Form, Lanes};
-use erasure::{Mark, fill};
-use qc::{CheckCoder, Coder, TableCoder, Verdict};
+use erasure::fill;
+use qc::{CheckCoder, Coder, QuasiCyclic, TableCoder};
 use std::env;
 use std::time::Instant;
-
-const CODES: [Code; 3] = [Code::Half1024, Code::TwoThirds1024, Code::FourFifths1024];
 
 const CALLS: u64 = 200;
 
@@ -25,24 +23,35 @@ const ROUNDS: u64 = 400;
 
 const MESSAGE_BITS: u64 = 1024;
 
-// The shortest time of a call, in nanoseconds, over some rounds of many calls.
-fn best_check<E: Element + Clone>(rt: &HostRuntime, code: Code) -> anyhow::Result<u64> {
-    let mut block = vec![in rt.alloc(); E::zero(); code.whole_len()]?;
+// The shortest time of a call, in nanoseconds, over some rounds of so many calls. A round in which a call fails
+// does not count.
+fn best<F: FnMut() -> bool + Drop>(rt: &HostRuntime, calls: u64, mut call: F) -> anyhow::Result<u64>
+    requires { F.IsAlwaysCallable call }
+{
     let mut best = u64::MAX;
     for _ in 0..ROUNDS {
         let start = Instant::now(rt)?;
-        let mut passed: u64 = 0;
-        for _ in 0..CALLS {
-            if let Ok(Verdict::Passes) = qc::check(code, &mut block) {
-                passed = passed.saturating_add(1);
+        let mut done: u64 = 0;
+        for _ in 0..calls {
+            if call() {
+                done = done.saturating_add(1);
             }
         }
-        let spent = start.elapsed(rt)?.as_nanos();
-        if passed == CALLS {
-            best = best.min(u64::try_from(spent).unwrap_or(u64::MAX) / CALLS);
+        let spent = u64::try_from(start.elapsed(rt)?.as_nanos()).unwrap_or(u64::MAX);
+        if done == calls {
+            best = best.min(spent.checked_div(calls).unwrap_or(u64::MAX));
         }
     }
     Ok(best)
+}
+
+fn best_check<E: Element + Clone>(rt: &HostRuntime, code: Code) -> anyhow::Result<u64> {
+    let mut block = vec![in rt.alloc(); E::zero(); code.whole_len()]?;
+    best(
+        rt,
+        CALLS,
+        || matches!(qc::check(code, &mut block), Ok(None)),
+    )
 }
 
 fn best_coding<K: Coder, E: Element + Clone>(
@@ -51,40 +60,19 @@ fn best_coding<K: Coder, E: Element + Clone>(
     code: Code,
 ) -> anyhow::Result<u64> {
     let mut block = vec![in rt.alloc(); E::zero(); code.whole_len()]?;
-    let mut best = u64::MAX;
-    for _ in 0..ROUNDS {
-        let start = Instant::now(rt)?;
-        for _ in 0..CODINGS {
-            let _ = coder.encode(code, &mut block);
-        }
-        let spent = start.elapsed(rt)?.as_nanos();
-        best = best.min(u64::try_from(spent).unwrap_or(u64::MAX) / CODINGS);
-    }
-    Ok(best)
+    best(rt, CODINGS, || coder.encode(code, &mut block).is_ok())
 }
 
 fn best_fill(rt: &HostRuntime, code: Code) -> anyhow::Result<u64> {
-    let mut marks = vec![in rt.alloc(); Mark::Zero; code.block_len()]?;
+    let mut marks = vec![in rt.alloc(); Some(Bit::Zero); code.block_len()]?;
     let mut forms = vec![in rt.alloc(); Form::zero(); code.whole_len()]?;
     let mut places = vec![in rt.alloc(); 0usize; 64]?;
-    let mut best = u64::MAX;
-    for _ in 0..ROUNDS {
-        let start = Instant::now(rt)?;
-        let mut filled: u64 = 0;
-        for _ in 0..FILLS {
-            for mark in marks.iter_mut().take(64) {
-                *mark = Mark::Erased;
-            }
-            if let Ok(()) = fill(code, &mut marks, &mut forms, &mut places) {
-                filled = filled.saturating_add(1);
-            }
+    best(rt, FILLS, || {
+        for mark in marks.iter_mut().take(64) {
+            *mark = None;
         }
-        let spent = start.elapsed(rt)?.as_nanos();
-        if filled == FILLS {
-            best = best.min(u64::try_from(spent).unwrap_or(u64::MAX) / FILLS);
-        }
-    }
-    Ok(best)
+        fill(code, &mut marks, &mut forms, &mut places).is_ok()
+    })
 }
 
 // Blocks in a second, where a call of so many nanoseconds works so many.
@@ -122,23 +110,17 @@ fn full_sheet(rt: &HostRuntime, job: &[u8]) -> anyhow::Result<Vec<u8>> {
 
 fn best_sheet(rt: &HostRuntime, job: &[u8]) -> anyhow::Result<u64> {
     let text = full_sheet(rt, job)?;
-    let mut best = u64::MAX;
-    for _ in 0..ROUNDS {
-        let start = Instant::now(rt)?;
+    let sheet = best(rt, 1, || {
         let mut printed = Vec::new(rt.alloc());
-        jobsheet::work(&text, &mut printed)?;
-        let spent = start.elapsed(rt)?.as_nanos();
-        if printed.len() as u64 > 64 * JOBS {
-            best = best.min(u64::try_from(spent).unwrap_or(u64::MAX) / JOBS);
-        }
-    }
-    Ok(best)
+        jobsheet::work(&text, &mut printed).is_ok() && printed.len() as u64 > 64 * JOBS
+    })?;
+    Ok(sheet / JOBS)
 }
 
 // Times a kind whose elements hold the same place of so many blocks.
 fn time_kind<E: Element + Clone>(rt: &HostRuntime, kind: &str, blocks: u64) -> anyhow::Result<()> {
-    for code in CODES {
-        let n = code.number();
+    for code in Code::ALL {
+        let n = u32::from(code);
         let check = best_check::<E>(rt, code)?;
         let rate = blocks_per_second(blocks, check);
         println!(rt; "code {n}, {kind}: check {check} ns, {rate} blocks/s")?;
@@ -160,10 +142,10 @@ fn main(rt: HostRuntime) -> anyhow::Result<()> {
     time_kind::<Bit>(&rt, "bits", 1)?;
     time_kind::<Lanes>(&rt, "64 lanes", 64)?;
     time_kind::<Form>(&rt, "forms", 1)?;
-    for code in CODES {
+    for code in Code::ALL {
         println!(rt;
             "code {}: fill of 64 erased {} ns",
-            code.number(),
+            u32::from(code),
             best_fill(&rt, code)?
         )?;
     }

@@ -10,16 +10,12 @@ use element::Bit;
 use printed::{R_4, R_6, R_8};
 use qc::{CheckCoder, Coder, QuasiCyclic, TableCoder};
 use std::alloc::{AllocError, Global};
+use std::fmt::Write;
 
-const HEX: &str = "0123456789ABCDEF";
-
-// The digits of a word, most significant first.
-fn push_hex(text: &mut String, word: u32) -> Result<(), AllocError> {
-    for place in 0..8u32 {
-        let digit = (word >> (28 - 4 * place)) % 16;
-        text.push(HEX.chars().nth(digit as usize).unwrap_or('?'))?;
-    }
-    Ok(())
+// A row of bits as a number, the first the most significant.
+fn number_of(bits: &[Bit]) -> u32 {
+    bits.iter()
+        .fold(0, |word, bit| (word << 1) | u32::from(*bit == Bit::One))
 }
 
 // The parity of the message with only bit `set` set, as hex digits.
@@ -30,25 +26,17 @@ fn parity_of<K: Coder>(
     set: usize,
 ) -> Result<String, AllocError> {
     let mut block = vec![in heap; Bit::Zero; code.whole_len()]?;
-    if set < block.len() {
-        block[set] = Bit::One;
+    if let Some(bit) = block.get_mut(set) {
+        *bit = Bit::One;
     }
     let _ = coder.encode(code, &mut block);
     let mut text = String::new(heap);
-    let mut word: u32 = 0;
-    for (i, bit) in block
-        .iter()
-        .skip(1024)
-        .take(2 * code.group_len())
-        .enumerate()
+    for bits in block
+        .chunks_exact(32)
+        .skip(1024 / 32)
+        .take(2 * code.group_len() / 32)
     {
-        word = (word & 0x7fff_ffff) << 1;
-        if *bit == Bit::One {
-            word |= 1;
-        }
-        if i % 32 == 31 {
-            push_hex(&mut text, word)?;
-        }
+        write!(text, "{:08X}", number_of(bits))?;
     }
     Ok(text)
 }
@@ -60,7 +48,7 @@ fn tell_parity(rt: &HostRuntime, code: Code, set: usize, begins: &str) -> anyhow
     let verdict = if holds { "agrees" } else { "DIFFERS" };
     println!(rt;
         "Code {}, only message bit {set} set: the parity begins {begins}: {verdict}.",
-        code.number()
+        u32::from(code)
     )?;
     Ok(())
 }
@@ -75,7 +63,7 @@ fn first_row(heap: Global, code: Code, k: usize) -> Result<String, AllocError> {
         .skip(k.saturating_mul(width))
         .take(width)
     {
-        push_hex(&mut text, *word)?;
+        write!(text, "{word:08X}")?;
     }
     Ok(text)
 }

@@ -2,7 +2,7 @@
 use ar4ja::Code;
 use element::Bit;
 use outlet::byte_bit;
-use qc::Coder;
+use qc::{Coder, QuasiCyclic};
 use std::alloc::{AllocError, Global};
 
 // The parity of the message with only bit 992 set, at rate 4/5: the first rows that the standard's printed
@@ -15,8 +15,8 @@ const PRINTED_PARITY: [u8; 32] = [
 // Message `k`: its bytes count up from k.
 pub(crate) fn message(k: u8) -> [u8; 128] {
     let mut bytes = [k; 128];
-    for i in 0..128u8 {
-        bytes[i as usize] = k.wrapping_add(i);
+    for (byte, i) in bytes.iter_mut().zip(0..128u8) {
+        *byte = k.wrapping_add(i);
     }
     bytes
 }
@@ -27,34 +27,29 @@ pub(crate) fn empty_block(heap: Global, code: Code) -> Result<Vec<Bit>, AllocErr
 }
 
 pub(crate) fn set_bit(block: &mut [Bit], place: usize) {
-    if place < block.len() {
-        block[place] = Bit::One;
+    if let Some(bit) = block.get_mut(place) {
+        *bit = Bit::One;
     }
 }
 
 // Writes bytes, the most significant bit first, from a place of the block on.
 pub(crate) fn write_bytes(block: &mut [Bit], from: usize, bytes: &[u8]) {
-    for (b, i) in block
-        .iter_mut()
-        .skip(from)
-        .zip(0..bytes.len().saturating_mul(8))
-    {
-        if i / 8 < bytes.len() {
-            *b = byte_bit(bytes[i / 8], i % 8);
-        }
+    let bits = bytes.iter().flat_map(|byte| {
+        let byte = *byte;
+        (0..8usize).map(move |place| byte_bit(byte, place))
+    });
+    for (bit, written) in block.iter_mut().skip(from).zip(bits) {
+        *bit = written;
     }
 }
 
 // The word that 32 bits of the block make, from a place on.
 pub(crate) fn word_at(block: &[Bit], from: usize) -> u32 {
-    let mut word: u32 = 0;
-    for b in block.iter().skip(from).take(32) {
-        word = (word & 0x7fff_ffff) << 1;
-        if *b == Bit::One {
-            word |= 1;
-        }
-    }
-    word
+    block
+        .iter()
+        .skip(from)
+        .take(32)
+        .fold(0, |word, bit| (word << 1) | u32::from(*bit == Bit::One))
 }
 
 // The codeblock of rate 4/5 whose parity the standard prints.

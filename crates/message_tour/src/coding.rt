@@ -2,14 +2,14 @@
 use crate::blocks::{coded_block, printed_codeblock, set_bit, word_at};
 use ar4ja::Code;
 use element::Bit;
-use qc::{CheckCoder, TableCoder, Verdict};
+use qc::{CheckCoder, QuasiCyclic, TableCoder};
 
 fn tell(rt: &impl Print, code: Code, block: &mut [Bit]) -> anyhow::Result<()> {
     match qc::check(code, block) {
-        Ok(Verdict::Passes) => println!(rt;
+        Ok(None) => println!(rt;
             "  All rows of the parity-check matrix are zero: the block passes."
         )?,
-        Ok(Verdict::Fails(row)) => println!(rt;
+        Ok(Some(row)) => println!(rt;
             "  The block fails: row {row} is the lowest that is not zero."
         )?,
         Err(_) => println!(rt; "  The buffer is shorter than a whole block.")?,

@@ -1,29 +1,21 @@
 // Erased symbols filled again.
 use crate::blocks::{coded_block, printed_codeblock};
 use ar4ja::Code;
-use element::{Bit, Form};
-use erasure::{FillFault, Mark, fill};
-use qc::TableCoder;
+use element::{Bit, Element, Form};
+use erasure::{FillFault, fill};
+use qc::{QuasiCyclic, TableCoder};
 use refusal::Refusal;
 use std::alloc::{AllocError, Global};
 
-fn marks_of(heap: Global, block: &[Bit], count: usize) -> Result<Vec<Mark>, AllocError> {
-    let mut marks = Vec::new(heap);
-    for b in block.iter().take(count) {
-        match b {
-            Bit::Zero => marks.push(Mark::Zero)?,
-            Bit::One => marks.push(Mark::One)?,
-        }
-    }
-    Ok(marks)
+fn marks_of(heap: Global, block: &[Bit], count: usize) -> Result<Vec<Option<Bit>>, AllocError> {
+    block.iter().take(count).map(|b| Some(*b)).collect(heap)
 }
 
 // Erases so many symbols from a place on, each some places after the one before.
-fn erase(marks: &mut [Mark], from: usize, step: usize, count: usize) {
+fn erase(marks: &mut [Option<Bit>], from: usize, step: usize, count: usize) {
     for k in 0..count {
-        let at = from.saturating_add(k.saturating_mul(step));
-        if at < marks.len() {
-            marks[at] = Mark::Erased;
+        if let Some(mark) = marks.get_mut(from.saturating_add(k.saturating_mul(step))) {
+            *mark = None;
         }
     }
 }
@@ -32,14 +24,10 @@ fn erase(marks: &mut [Mark], from: usize, step: usize, count: usize) {
 fn tell_fill(
     rt: &HostRuntime,
     code: Code,
-    marks: &mut [Mark],
-    sent: &[Mark],
+    marks: &mut [Option<Bit>],
+    sent: &[Option<Bit>],
 ) -> anyhow::Result<()> {
-    let empty = Form {
-        bit: Bit::Zero,
-        unknowns: 0,
-    };
-    let mut forms = vec![in rt.alloc(); empty; code.whole_len()]?;
+    let mut forms = vec![in rt.alloc(); Form::zero(); code.whole_len()]?;
     let mut places = [0usize; 64];
     match fill(code, marks, &mut forms, &mut places[..]) {
         Ok(()) if marks[..] == sent[..] => println!(rt;

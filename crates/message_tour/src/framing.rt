@@ -2,7 +2,7 @@
 use crate::blocks::empty_block;
 use ar4ja::Code;
 use element::Bit;
-use frame::{Orientation, ReadFault, read};
+use frame::{ReadFault, read};
 use outlet::{Inverter, Outlet, Packed, Randomizer};
 use refusal::Refusal;
 
@@ -39,12 +39,8 @@ pub(crate) fn tell_reading<O: Outlet>(
     let mut run = empty_block(rt.alloc(), code)?;
     match read(outlet, place, code, tolerance, &mut message[..], &mut run) {
         Ok((orientation, distance)) => {
-            let way = match orientation {
-                Orientation::Upright => "upright",
-                Orientation::Complemented => "complemented",
-            };
             println!(rt;
-                "  read {way}, the marker {distance} bits off; the message begins {:02X}{:02X}.",
+                "  read {orientation}, the marker {distance} bits off; the message begins {:02X}{:02X}.",
                 message[0], message[1]
             )?
         }

@@ -64,8 +64,8 @@ fn read_all_back<C: Coder, O: Outlet>(
 
 // Adds one to the bit at a place.
 fn damage(bytes: &mut [u8], place: usize) {
-    if place / 8 < bytes.len() {
-        bytes[place / 8] ^= 128u8 >> (place % 8);
+    if let Some(byte) = bytes.get_mut(place / 8) {
+        *byte ^= 128u8 >> (place % 8);
     }
 }
 

@@ -2,23 +2,14 @@
 use crate::blocks::message;
 use jobsheet::{ROOM, Sheet};
 use std::alloc::{AllocError, Global};
-
-// The digit of a number below 16.
-fn digit(n: u8) -> u8 {
-    match n {
-        0..=9 => b'0' + n,
-        10..=15 => b'A' + (n - 10),
-        _ => b'?',
-    }
-}
+use std::fmt::Write;
 
 // A sheet that asks for message 0 to be coded at rate 2/3 by the rows.
-fn sheet_text(heap: Global) -> Result<Vec<u8>, AllocError> {
-    let mut text = Vec::new(heap);
-    text.extend_from_slice(b"code,coder,message\n2,check,")?;
+fn sheet_text(heap: Global) -> Result<String, AllocError> {
+    let mut text = String::new(heap);
+    text.push_str("code,coder,message\n2,check,")?;
     for byte in message(0) {
-        text.push(digit(byte / 16))?;
-        text.push(digit(byte % 16))?;
+        write!(text, "{byte:02X}")?;
     }
     Ok(text)
 }
@@ -39,7 +30,7 @@ pub(crate) fn work_sheet(rt: &HostRuntime) -> anyhow::Result<()> {
     )?;
     let text = sheet_text(rt.alloc())?;
     let mut out = [0u8; ROOM];
-    let (mut sheet, opened) = Sheet::open(&text, &mut out);
+    let (mut sheet, opened) = Sheet::open(text.as_bytes(), &mut out);
     show(rt, &out, opened.count)?;
     let worked = sheet.job_line(&mut out);
     show(rt, &out, worked.count)

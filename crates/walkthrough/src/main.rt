@@ -3,11 +3,11 @@
 #![tactic(auto)]
 
 use ar4ja::Code;
-use element::{Bit, Form};
-use erasure::{Mark, fill};
-use frame::{Orientation, ReadFault, marker_bit, read};
+use element::{Bit, Element, Form};
+use erasure::fill;
+use frame::{ReadFault, marker_bit, read};
 use outlet::{Inverter, Outlet, Packed, Randomizer};
-use qc::{CheckCoder, Coder, TableCoder, Verdict};
+use qc::{CheckCoder, Coder, QuasiCyclic, TableCoder};
 use refusal::Refusal;
 use std::alloc::{AllocError, Global};
 
@@ -17,57 +17,43 @@ const PRINTED_PARITY: [u32; 8] = [
     0x32fefcaf, 0x70863b75, 0x3846f110, 0xc4e23dff, 0x79d3f753, 0x064648fa, 0x830452f5, 0xb9ed8445,
 ];
 
-fn bit(word: u32, place: u32) -> Bit {
-    if (word >> (31 - place % 32)) % 2 == 1 {
-        Bit::One
-    } else {
-        Bit::Zero
-    }
-}
-
 // A block of zeros with room for its punctured bits behind it.
 fn empty_block(heap: Global, code: Code) -> Result<Vec<Bit>, AllocError> {
     vec![in heap; Bit::Zero; code.whole_len()]
 }
 
 fn set_bit(block: &mut [Bit], place: usize) {
-    if place < block.len() {
-        block[place] = Bit::One;
+    if let Some(bit) = block.get_mut(place) {
+        *bit = Bit::One;
     }
 }
 
 // Writes words, most significant bit first, from a place of the block on.
 fn write_words(block: &mut [Bit], from: usize, words: &[u32]) {
-    for (i, word) in words.iter().enumerate() {
-        for place in 0..32u32 {
-            let at = from
-                .saturating_add(i.saturating_mul(32))
-                .saturating_add(place as usize);
-            if at < block.len() {
-                block[at] = bit(*word, place);
-            }
-        }
+    let bits = words.iter().flat_map(|word| {
+        let word = *word;
+        (0..32u32).map(move |place| Bit::from((word >> (31 - place)) % 2 == 1))
+    });
+    for (bit, written) in block.iter_mut().skip(from).zip(bits) {
+        *bit = written;
     }
 }
 
 // The word that 32 bits of the block make, from a place on.
 fn word_at(block: &[Bit], from: usize) -> u32 {
-    let mut word: u32 = 0;
-    for b in block.iter().skip(from).take(32) {
-        word = (word & 0x7fff_ffff) << 1;
-        if *b == Bit::One {
-            word |= 1;
-        }
-    }
-    word
+    block
+        .iter()
+        .skip(from)
+        .take(32)
+        .fold(0, |word, bit| (word << 1) | u32::from(*bit == Bit::One))
 }
 
 fn tell(rt: &impl Print, code: Code, block: &mut [Bit]) -> anyhow::Result<()> {
     match qc::check(code, block) {
-        Ok(Verdict::Passes) => println!(rt;
+        Ok(None) => println!(rt;
             "  All rows of the parity-check matrix are zero: the block passes."
         )?,
-        Ok(Verdict::Fails(row)) => println!(rt;
+        Ok(Some(row)) => println!(rt;
             "  The block fails: row {row} is the lowest that is not zero."
         )?,
         Err(_) => println!(rt; "  The buffer is shorter than a whole block.")?,
@@ -102,11 +88,9 @@ fn check_printed_codeblock(rt: &HostRuntime) -> anyhow::Result<()> {
 
 // The bytes 0 to 127, four to a word.
 fn counting_words(heap: Global) -> Result<Vec<u32>, AllocError> {
-    let mut words = Vec::new(heap);
-    for i in 0..32u32 {
-        words.push(4 * i * 0x0101_0101 + 0x0001_0203)?;
-    }
-    Ok(words)
+    (0..32u32)
+        .map(|i| 4 * i * 0x0101_0101 + 0x0001_0203)
+        .collect(heap)
 }
 
 // Codes the message of the bytes 0 to 127 both ways.
@@ -174,12 +158,8 @@ fn tell_reading<O: Outlet>(rt: &HostRuntime, outlet: &O, code: Code) -> anyhow::
     let mut run = empty_block(rt.alloc(), code)?;
     match read(outlet, 0, code, 0, &mut message[..], &mut run) {
         Ok((orientation, distance)) => {
-            let way = match orientation {
-                Orientation::Upright => "upright",
-                Orientation::Complemented => "complemented",
-            };
             println!(rt;
-                "  read {way}, the marker {distance} bits off; byte 124 of the message is {:02X}.",
+                "  read {orientation}, the marker {distance} bits off; byte 124 of the message is {:02X}.",
                 message[124]
             )?
         }
@@ -205,15 +185,8 @@ fn read_frames(rt: &HostRuntime) -> anyhow::Result<()> {
     tell_reading(rt, &framed(rt.alloc(), code, &block)?, code)
 }
 
-fn marks_of(heap: Global, block: &[Bit], count: usize) -> Result<Vec<Mark>, AllocError> {
-    let mut marks = Vec::new(heap);
-    for b in block.iter().take(count) {
-        match b {
-            Bit::Zero => marks.push(Mark::Zero)?,
-            Bit::One => marks.push(Mark::One)?,
-        }
-    }
-    Ok(marks)
+fn marks_of(heap: Global, block: &[Bit], count: usize) -> Result<Vec<Option<Bit>>, AllocError> {
+    block.iter().take(count).map(|b| Some(*b)).collect(heap)
 }
 
 // Erases 64 symbols of the printed codeblock, and fills them again.
@@ -222,16 +195,10 @@ fn fill_erased(rt: &HostRuntime) -> anyhow::Result<()> {
     let block = printed_codeblock(rt.alloc())?;
     let sent = marks_of(rt.alloc(), &block, code.block_len())?;
     let mut marks = marks_of(rt.alloc(), &block, code.block_len())?;
-    for i in 960..1024 {
-        if i < marks.len() {
-            marks[i] = Mark::Erased;
-        }
+    for mark in marks.iter_mut().skip(960).take(64) {
+        *mark = None;
     }
-    let empty = Form {
-        bit: Bit::Zero,
-        unknowns: 0,
-    };
-    let mut forms = vec![in rt.alloc(); empty; code.whole_len()]?;
+    let mut forms = vec![in rt.alloc(); Form::zero(); code.whole_len()]?;
     let mut places = [0usize; 64];
     println!(rt; "The first codeblock with its bits 960 to 1023 erased:")?;
     match fill(code, &mut marks, &mut forms, &mut places[..]) {
