@@ -1,5 +1,5 @@
 -- Bits: the sum modulo two.
-use Rattle.std.specs.Prelude.{◌≡◌, ℕ, Bool, true, false, refl}
+use Rattle.std.specs.Prelude.{◌≡◌, ℕ, zero, suc, ◌+◌, ◌*◌, Bool, true, false, refl}
 use Rattle.std.proofs.Common.{subst}
 use Rattle.std.proofs.lemmas.Bool.{false≢true}
 use Rattle.element.specs.Laws.{Laws}
@@ -29,6 +29,11 @@ bit_if true = One
 abbrev pub weight : Bit → ℕ
 weight Zero = 0
 weight One = 1
+
+-- the number of the first n bits, the first one the most significant
+abbrev pub number_of : (ℕ → Bit) → ℕ → ℕ
+number_of b zero = 0
+number_of b (suc n) = 2 * number_of b n + weight (b n)
 
 assoc : (x y z : Bit) → bit_plus (bit_plus x y) z ≡ bit_plus x (bit_plus y z)
 assoc Zero Zero Zero = refl

@@ -8,7 +8,7 @@ use Rattle.element.specs.Laws.{Laws}
 use Rattle.element.specs.Bits.{bit_plus, bit_same, bit_laws}
 use Rattle.element.specs.declared.bits.Bit.{Bit}
 use Rattle.element.specs.declared.bits.Bit.TheVariants.{Zero}
-use Rattle.element.specs.declared.affine.Form.{Form}
+use Rattle.element.specs.declared.forms.Form.{Form}
 
 abbrev form : Bit → ℕ → Form
 form b n = record { bit = b; unknowns = n }

@@ -52,9 +52,6 @@ impl From<Bit> for u8 {
     ghost from_gives = { λ b r. (r ≡ weight b) × (r < 2) };
 
     fn from(b: Bit) -> u8 {
-        match b {
-            Bit::Zero => 0,
-            Bit::One => 1,
-        }
+        b as u8
     }
 }

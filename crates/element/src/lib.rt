@@ -6,12 +6,14 @@
 ghost use Rattle.std.specs.Prelude.{◌≡◌, Bool};
 ghost use Rattle.element.specs.Laws.{Laws};
 
-mod affine;
 mod bits;
+mod forms;
+mod numbers;
 mod side_by_side;
 
-pub use affine::Form;
 pub use bits::Bit;
+pub use forms::Form;
+pub use numbers::number_of;
 pub use side_by_side::Lanes;
 
 // An element kind: a zero, a sum in which every element is its own inverse, and `==` as the test of equality.

@@ -1,5 +1,6 @@
-// Refusals: how a call that turns its input down says why. Every operation has an enum of its own for
-// this, and every case of such an enum has one number and the values that it carries.
+// Refusals: how a call that turns its input down says why. Check and the coders share one enum; every other operation has
+// its own, since it is refused for its own reasons. A case has one number of the plant's books, or that of the fault
+// that it holds, and values.
 
 #![tactic(auto)]
 
