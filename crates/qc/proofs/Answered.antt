@@ -10,7 +10,7 @@ use Rattle.qc.specs.Shape.{Shape, M, whole}
 use Rattle.qc.specs.Codeblock.{row, lowest, groups, completed, Codeblock}
 use Rattle.qc.specs.Check.{lowest_row, checked_run, check_answer}
 use Rattle.qc.proofs.Soundness.{Sound}
-use Rattle.qc.proofs.Verdicts.{lowest_of_two, passes_exactly}
+use Rattle.qc.proofs.Codeblocks.{lowest_of_two, passes_exactly}
 
 module _ {E : Type 0} {none : E} {plus : E → E → E} {same : E → E → Bool} (laws : Laws none plus same) (c : Shape) (ok : Sound c)
     (xs : List E) (fits : whole c ≤ length xs) (ys : List E) (is : ys ≡ completed none plus c xs)

@@ -12,7 +12,7 @@ use Rattle.qc.proofs.Firsts.{operator_group, operator_alike, terms_same}
 use Rattle.qc.proofs.Inverse.{under}
 use Rattle.qc.proofs.Solving.{Zero, of_message}
 use Rattle.qc.proofs.Soundness.{Sound}
-use Rattle.qc.proofs.Verdicts.{row_at}
+use Rattle.qc.proofs.Codeblocks.{row_at}
 
 -- segment j of group g of a list
 abbrev pub group_segments : {E : Type 0} → E → Shape → List E → ℕ → ℕ → ℕ → E

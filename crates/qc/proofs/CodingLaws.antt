@@ -19,9 +19,16 @@ use Rattle.qc.proofs.Solving.{Zero, of_message, only_a, only_b, only_z}
 use Rattle.qc.proofs.Generator.{coded, generated}
 use Rattle.qc.proofs.Soundness.{Sound}
 use Rattle.qc.proofs.Tabulated.{Tabulated}
-use Rattle.qc.proofs.Verdicts.{zero_codeblock, codeblock_zero}
+use Rattle.qc.proofs.Codeblocks.{zero_codeblock, codeblock_zero}
 use Rattle.qc.proofs.Blocks.{group_segments, ZeroOf, rows_segments, segments_rows, zero_alike}
 use Rattle.qc.proofs.Encoded.{segment_start, parity_alike, parity_length, parity_message, parity_segments, completed_segments, completed_z, encoded_message, encoded_parity}
+
+-- what a coder promises, whatever a call of it answers
+pub record CodingLaws {E : Type 0} (none : E) (plus : E → E → E) (c : Shape) (t : Tables) : Type 0 where
+  pub coded : (xs : List E) → whole c ≤ length xs → Coded none plus c t xs
+  pub linear : Linear none plus c t
+  pub zeros : ZeroBlock none plus c t
+  pub turns : Turns none plus c t
 
 module _ {E : Type 0} {none : E} {plus : E → E → E} {same : E → E → Bool} (laws : Laws none plus same) (c : Shape) (ok : Sound c) (t : Tables) (good : Tabulated c t) where
   -- the table's block of a message
@@ -254,3 +261,6 @@ module _ {E : Type 0} {none : E} {plus : E → E → E} {same : E → E → Bool
       parity_turned q s =
           parity_alike laws c ok t (segments none c.m zs) (λ r. shift c.m (c.m - 1) (segments none c.m xs r)) turned q s
           ∙ sum_ext laws (4 * c.K) _ _ (λ r hr. act_shift laws c.m (first_row c.m t.generator (8 * r + q)) (c.m - 1) (segments none c.m xs r) s)
+
+  pub coding_laws : CodingLaws none plus c t
+  coding_laws = record { coded = is_coded; linear = is_linear; zeros = zero_block; turns = is_turning }

@@ -53,7 +53,7 @@ module _ {E : Type 0} {none : E} {plus : E → E → E} {same : E → E → Bool
     unfolding with_parity
     parity_front p h = get_or_append_left (take (c.K * M c) xs) _ none p (omega (arith, front)) ∙ get_or-take (c.K * M c) xs p none h
 
-    pub parity_made : (i : ℕ) → i < 2 * M c → get_or (with_parity none plus c t xs) (c.K * M c + i) none ≡ parity none plus c t (segments none c.m xs) (i / c.m) (i % c.m)
+    parity_made : (i : ℕ) → i < 2 * M c → get_or (with_parity none plus c t xs) (c.K * M c + i) none ≡ parity none plus c t (segments none c.m xs) (i / c.m) (i % c.m)
     unfolding with_parity f
     parity_made i h =
         let at : c.K * M c + i ≡ length (take (c.K * M c) xs) + i = omega (arith, front) in
@@ -62,7 +62,7 @@ module _ {E : Type 0} {none : E} {plus : E → E → E} {same : E → E → Bool
         ∙ get_or_append_left (map f (range_with_len 0 (2 * M c))) _ none i (omega (arith, made))
         ∙ get_or-map-range_with_len f 0 (2 * M c) i i none h (omega arith)
 
-    pub parity_rest : (p : ℕ) → sent c ≤ p → get_or (with_parity none plus c t xs) p none ≡ get_or xs p none
+    parity_rest : (p : ℕ) → sent c ≤ p → get_or (with_parity none plus c t xs) p none ≡ get_or xs p none
     unfolding with_parity f
     parity_rest p h =
         let n : ℕ = p - sent c in

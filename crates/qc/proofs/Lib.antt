@@ -13,7 +13,8 @@ pub mod Solving
 pub mod Generator
 pub mod Rows
 pub mod Completion
-pub mod Verdicts
+pub mod Codeblocks
+pub mod Views
 pub mod Apartness
 pub mod Answered
 pub mod Tabulated

@@ -15,7 +15,8 @@ use Rattle.qc.proofs.Soundness.{Sound}
 use Rattle.qc.proofs.Places.{in_group}
 use Rattle.qc.proofs.Rows.{within_group}
 use Rattle.qc.proofs.Equations.{by_terms}
-use Rattle.qc.proofs.Verdicts.{row_at, View, view}
+use Rattle.qc.proofs.Codeblocks.{row_at}
+use Rattle.qc.proofs.Views.{View, view}
 
 -- what the test of the lengths says
 pub record There (c : Shape) (len n room : ℕ) : Type 0 where
@@ -43,7 +44,7 @@ abbrev pub viewed_segment : {E : Type 0} → E → (E → E → E) → View E �
 viewed_segment none plus v j s = segment_sum none plus v.m v.table v.ts (segments none v.m v.xs) j s
 
 module _ {E : Type 0} {none : E} {plus : E → E → E} {same : E → E → Bool} (laws : Laws none plus same) (c : Shape) (xs : List E) (n : ℕ) where
-  pub row_of_segment : (s : ℕ) → s < c.m → row none plus c (groups none (M c) xs) (n * c.m + s) ≡ viewed_segment none plus (view c (block_row c (n / 4)) xs) (n % 4) s
+  row_of_segment : (s : ℕ) → s < c.m → row none plus c (groups none (M c) xs) (n * c.m + s) ≡ viewed_segment none plus (view c (block_row c (n / 4)) xs) (n % 4) s
   row_of_segment s h =
       let quarter : n % 4 < 4 = mod-lt n (lit< tt) in
       ap (row none plus c (groups none (M c) xs)) place

@@ -9,7 +9,7 @@ use Rattle.qc.specs.Terms.{terms}
 use Rattle.qc.specs.Segments.{segments, segment_sum, Written}
 use Rattle.qc.specs.Circulant.{sum, act}
 use Rattle.qc.specs.Coding.{first_row}
-use Rattle.qc.proofs.Verdicts.{View, given, viewed, view_is}
+use Rattle.qc.proofs.Views.{View, given, viewed, view_is}
 
 -- in ys the segments t to t + k - 1 are f's, and all else is as in xs
 pub record SegmentsWritten {E : Type 0} (none : E) (m : ℕ) (f : ℕ → ℕ → E) (t : ℕ) (xs ys : List E) (k : ℕ) : Type 0 where
@@ -18,7 +18,7 @@ pub record SegmentsWritten {E : Type 0} (none : E) (m : ℕ) (f : ℕ → ℕ �
   pub after : (n s : ℕ) → t + k ≤ n → s < m → segments none m ys n s ≡ segments none m xs n s
   pub rest : (p : ℕ) → (t + k) * m ≤ p → get_or ys p none ≡ get_or xs p none
 
-pub by_segments : {E : Type 0} (none : E) (m : ℕ) (f : ℕ → ℕ → E) (t k : ℕ) (xs ys : List E) (from upto : ℕ) → from ≡ t * m → upto ≡ (t + k) * m
+by_segments : {E : Type 0} (none : E) (m : ℕ) (f : ℕ → ℕ → E) (t k : ℕ) (xs ys : List E) (from upto : ℕ) → from ≡ t * m → upto ≡ (t + k) * m
     → Written none (λ p. f ((p - from) / m) ((p - from) % m)) from xs ys upto → SegmentsWritten none m f t xs ys k
 by_segments none m f t k xs ys from upto is to w = record {
   before = λ n s hn hs. w.before (n * m + s) (omega (arith, mul-add-lt n m s t hn hs, mul_comm m t));
@@ -51,7 +51,7 @@ abbrev pub factors : ℕ → List ℕ → ℕ → ℕ → Factors
 factors m ws s t = record { m = m; words = ws; source = s; target = t }
 
 -- place s of target n of a product with four sources and four targets
-abbrev pub multiplied : {E : Type 0} → E → (E → E → E) → Factors → (ℕ → ℕ → E) → ℕ → ℕ → E
+abbrev multiplied : {E : Type 0} → E → (E → E → E) → Factors → (ℕ → ℕ → E) → ℕ → ℕ → E
 multiplied none plus f x n s = sum none plus 4 (λ l. act none plus f.m (first_row f.m f.words (4 * l + n)) (x (f.source + l)) s)
 
 abbrev pub Multiplied : {E : Type 0} → E → (E → E → E) → List E → List E → Factors → Type 0

@@ -31,7 +31,7 @@ fn row_terms<C: QuasiCyclic>(code: C, n: usize) -> &'static [Term]
 // Writes rows n·m to n·m + m - 1 of the whole block at the front of `run` into `rows`, which is one segment
 // of m elements; n is 0 to 7, since the third block row is what the punctured group is worked out from.
 // Answers false, and writes nothing, where `run` is shorter than a whole block, `rows` is not one segment or
-// n is not below 8. No rule gives this refusal a number, so the answer is a bool.
+// n is not below 8. The answer is a bool: the elimination that asks for rows always has the lengths right.
 pub fn rows_of_segment<C: QuasiCyclic, E: Element>(
     code: C,
     run: &[E],
@@ -44,10 +44,7 @@ pub fn rows_of_segment<C: QuasiCyclic, E: Element>(
     if !has_rows(code, run.len(), n, rows.len()) {
         return false;
     }
-    let block_row = Summands {
-        table: code.table(),
-        terms: row_terms(code, n),
-    };
+    let block_row = Summands::of(code, row_terms(code, n));
     block_row.sum_segment(rows, run, n % 4);
     true
 }

@@ -9,6 +9,7 @@ use element::Element;
 
 // Room to work segments of m elements in: one for sums, twice one, and a place for each element. The m bits of a
 // first row fill whole words.
+// The length of `sums` behind a `&mut Scratch` is known after a call only by a clause, so each call says it is `kept`.
 #[derive(Drop)]
 pub(crate) struct Scratch<'a, E> {
     pub(crate) sums: &'a mut [E],
@@ -62,7 +63,8 @@ fn write_twice<E: Element>(wide: &mut [E], segment: &[E])
 }
 
 // Lists how far each one of a first row takes an element: one place more than the number of its bit. Answers
-// how many there are. Each place is written, and kept or not by its bit, so that there is no branch to guess.
+// how many there are: the list has a count beside it, since it lies in fixed memory. Each place is written, and
+// kept or not by its bit, so that there is no branch to guess.
 fn list_ones(places: &mut [usize], first_row: &[u32]) -> usize
     requires { length places.old ≡ 32 * length first_row.now }
     ensures listed { take result places.new ≡ ones_of (bit (number first_row.now 0 (length first_row.now))) (length places.old) }
@@ -139,6 +141,7 @@ impl Product {
     }
 
     // Writes the targets, by number, since each reads the whole run. The sources lie before them.
+    // `Summands::write_group` has this loop over its own sums: a trait for both would need laws of its own.
     pub(crate) fn write<E: Element>(self, run: &mut [E], scratch: &mut Scratch<'_, E>)
         requires table { self.sources * self.targets * (length scratch.old.sums.now / 32) ≤ length self.words.now }
         requires apart { self.source + self.sources ≤ self.target }

@@ -15,7 +15,8 @@ use element::Element;
 // A coder keeps the message at the front of a run and writes behind it the parity and the punctured group
 // that make all rows zero. Its block is the only one of the message with that; the block of a sum of
 // messages is the sum of their blocks, that of zeros is zeros, and a message with each segment turned has the
-// block so turned.
+// block so turned. Any type may be a coder; the two here share what stands
+// around the working of a block, which each does in its own way (`Encoding`).
 pub trait Coder {
     fn encode<C: QuasiCyclic, E: Element>(&self, code: C, run: &mut [E]) -> Result<(), RunFault>
         ensures answer { outcome run_fault result ≡ encode_answer E.zero E.plus (C.shape code) (C.tables code) run.old }
@@ -34,7 +35,7 @@ pub struct TableCoder;
 #[derive(Clone, Copy, PartialEq, Eq, Debug)]
 pub struct CheckCoder;
 
-// How a coder works a whole block.
+// How a coder works a whole block. It asks of the buffers what `complete` does, and for the same reason.
 trait Encoding {
     fn encode_block<C: QuasiCyclic, E: Element>(
         &self,
@@ -74,20 +75,11 @@ impl Encoding for CheckCoder {
         run: &mut [E],
         scratch: &mut Scratch<'_, E>,
     ) {
-        let table = code.table();
         let groups = code.message_groups();
-        let group = 4 * code.segment();
-        let parity = groups * group;
-        let punctured = (groups + 2) * group;
-        let message = Summands {
-            table,
-            terms: code.message_terms(),
-        };
-        message.write_group(run, scratch.sums, punctured);
-        let asked = Summands {
-            table,
-            terms: code.asked_terms(),
-        };
+        let parity = groups * code.group_len();
+        let message = Summands::of(code, code.message_terms());
+        message.write_group(run, scratch.sums, code.block_len());
+        let asked = Summands::of(code, code.asked_terms());
         asked.write_group(run, scratch.sums, parity);
         let segments = 4 * groups;
         let product = Product {
@@ -99,10 +91,7 @@ impl Encoding for CheckCoder {
         };
         product.write(run, scratch);
         complete(code, run, scratch.sums);
-        let closing = Summands {
-            table,
-            terms: code.closing_terms(),
-        };
+        let closing = Summands::of(code, code.closing_terms());
         closing.write_group(run, scratch.sums, parity);
     }
 }

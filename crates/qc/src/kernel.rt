@@ -3,7 +3,9 @@ ghost use Rattle.std.specs.Prelude.{◌≡◌, ℕ, ◌+◌, ◌-◌, ◌*◌, �
 ghost use Rattle.std.specs.List.{list_all};
 ghost use Rattle.qc.specs.Segments.{segments, term_at, summed, Readable, AllReadable, AllApart, Written};
 ghost use Rattle.qc.specs.Codeblock.{lowest};
+ghost use Rattle.qc.specs.Shape.{permutations};
 
+use crate::matrix::QuasiCyclic;
 use crate::terms::{Permutation, Term};
 use element::Element;
 
@@ -21,6 +23,7 @@ pub(crate) fn add_each<E: Element>(sums: &mut [E], more: &[E])
     requires { length sums.old ≡ length more.now }
     ensures { (s : ℕ) → s < length sums.old → slice_index_or sums.new s E.zero ≡ E.plus (slice_index_or sums.old s E.zero) (slice_index_or more.now s E.zero) }
 {
+    // After `iter_mut().zip(more)` a proof would know nothing of the sums, so `more` goes by number.
     for (i, sum) in sums.iter_mut().enumerate() {
         *sum = sum.plus(more[i]);
     }
@@ -82,8 +85,21 @@ pub(crate) fn write_segment<E: Element>(run: &mut [E], from: usize, sums: &[E])
 // since it speaks of the lengths of the caller's buffers too.
 #[derive(Clone, Copy)]
 pub(crate) struct Summands<'a> {
-    pub(crate) table: &'a [Permutation],
-    pub(crate) terms: &'a [Term],
+    table: &'a [Permutation],
+    terms: &'a [Term],
+}
+
+impl Summands<'static> {
+    // A sum of a code's own terms.
+    pub(crate) fn of<C: QuasiCyclic>(code: C, terms: &'static [Term]) -> Self
+        ensures table { result.table.now ≡ permutations (C.shape code) }
+        ensures listed { result.terms.now ≡ terms.now }
+    {
+        Summands {
+            table: code.table(),
+            terms,
+        }
+    }
 }
 
 impl Summands<'_> {
@@ -106,6 +122,7 @@ impl Summands<'_> {
         ensures { result ≡ lowest (λ i. E.same (summed E.zero E.plus (length sums.old) self.entry run.now (i / length sums.old) (i % length sums.old)) E.zero) (4 * length sums.old) }
     {
         let m = sums.len();
+        // j numbers the segments of a group, which are worked out one by one and lie in no slice.
         for j in 0..4 {
             self.sum_segment(sums, run, j);
             if let Some(s) = lowest_nonzero(sums) {
@@ -124,6 +141,7 @@ impl Summands<'_> {
         ensures { Written E.zero (λ p. summed E.zero E.plus (length sums.old) self.entry run.old ((p - from) / length sums.old) ((p - from) % length sums.old)) from run.old run.new (from + 4 * length sums.old) }
     {
         let m = sums.len();
+        // By number: each segment is worked out from the whole run.
         for j in 0..4 {
             self.sum_segment(sums, run, j);
             write_segment(run, from + j * m, sums);

@@ -16,15 +16,13 @@ use element::Element;
 pub const LONGEST_SEGMENT: usize = 512;
 
 // Writes the punctured group of the block at the front of `run` behind it.
+// `there` and `segment` are asked here and below: they tie the code to two buffers that are lent on apart.
 pub(crate) fn complete<C: QuasiCyclic, E: Element>(code: C, run: &mut [E], sums: &mut [E])
     requires there { whole (C.shape code) ≤ length run.old }
     requires segment { length sums.old ≡ (C.shape code).m }
     ensures { run.new ≡ completed E.zero E.plus (C.shape code) run.old }
 {
-    let known = Summands {
-        table: code.table(),
-        terms: code.known_terms(),
-    };
+    let known = Summands::of(code, code.known_terms());
     known.write_group(run, sums, code.block_len());
 }
 
@@ -34,18 +32,12 @@ fn lowest_failing<C: QuasiCyclic, E: Element>(code: C, run: &[E], sums: &mut [E]
     requires segment { length sums.old ≡ (C.shape code).m }
     ensures { result ≡ lowest (λ i. E.same (row E.zero E.plus (C.shape code) (groups E.zero (M (C.shape code)) run.now) i) E.zero) (2 * M (C.shape code)) }
 {
-    let table = code.table();
-    let first = Summands {
-        table,
-        terms: code.first_terms(),
-    };
+    let first = Summands::of(code, code.first_terms());
+    // Not `or_else`, whose closure would need clauses for what `lowest_row` asks of it.
     if let Some(r) = first.lowest_row(sums, run) {
         return Some(r);
     }
-    let second = Summands {
-        table,
-        terms: code.second_terms(),
-    };
+    let second = Summands::of(code, code.second_terms());
     let group = code.group_len();
     second.lowest_row(sums, run).map(|r| group + r)
 }
@@ -61,9 +53,11 @@ pub fn check<C: QuasiCyclic, E: Element>(code: C, run: &mut [E]) -> Result<Optio
     ensures only { (w : ℕ → E) → AllZero E.zero E.plus (C.shape code) (completed_by E.zero E.plus (C.shape code) (groups E.zero (M (C.shape code)) run.old) w) → (i : ℕ) → i < M (C.shape code) → w i ≡ punctured E.zero E.plus (C.shape code) (groups E.zero (M (C.shape code)) run.old) i }
     ensures coders { whole (C.shape code) ≤ length run.old → (result ≡ Ok None ↔ Reproduced E.zero E.plus (C.shape code) (C.tables code) run.old) }
 {
+    // The coders test the same: one comparison, no shorter as a function with a contract.
     if run.len() < code.whole_len() {
         return Err(RunFault::TooShort);
     }
+    // An array of the longest segment: nothing is allocated.
     let mut scratch = [E::zero(); LONGEST_SEGMENT];
     let sums = &mut scratch[..code.segment()];
     complete(code, run, sums);

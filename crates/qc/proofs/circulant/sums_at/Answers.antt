@@ -1,5 +1,4 @@
 use Rattle.std.proofs.Common.{◌+◌, get_or, sym, ap, ◌∙◌, rules}
-use Rattle.qc.specs.Segments.{total}
 use Rattle.qc.proofs.Sums.{total_more}
 use Rattle.qc.proofs.Reach.{get_or_part}
 use Rattle.qc.proofs.circulant.sums_at.Goals as goal

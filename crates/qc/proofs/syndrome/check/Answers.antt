@@ -4,7 +4,7 @@ use Rattle.qc.specs.Codeblock.{groups}
 use Rattle.qc.proofs.Soundness.{sounds}
 use Rattle.qc.proofs.Answered.{answered, left, passes, fewer_fit, joined}
 use Rattle.qc.proofs.Tabulated.{tables_hold}
-use Rattle.qc.proofs.Verdicts.{only}
+use Rattle.qc.proofs.Codeblocks.{only}
 use Rattle.qc.proofs.CodingLaws.{codeblock_reproduced, reproduced_codeblock}
 use Rattle.qc.proofs.syndrome.check.Goals as goal
 

@@ -16,11 +16,6 @@ overflow_mul-start-in-loop-r g c =
     let h = (row_held _ _ _ _ _ _ c.loop-r-test.true c.requires.target c.args.scratch.now.some c.args.scratch.now.words c.requires.table).place in
     search rules
 
-pub overflow_add-first_row : goal.overflow_add-first_row
-overflow_add-first_row g c =
-    let h = (row_held _ _ _ _ _ _ c.loop-r-test.true c.requires.target c.args.scratch.now.some c.args.scratch.now.words c.requires.table).part in
-    search rules
-
 pub offset_bounds-self-start : goal.offset_bounds-self-start
 offset_bounds-self-start g c =
     let h = (row_held _ _ _ _ _ _ c.loop-r-test.true c.requires.target c.args.scratch.now.some c.args.scratch.now.words c.requires.table).place in

@@ -1,15 +1,10 @@
-use Rattle.std.proofs.Common.{◌≡◌, ◌*◌, ◌/◌, length, ap, ◌∙◌, subst, ap₂, arith, rules}
+use Rattle.std.proofs.Common.{◌≡◌, ◌*◌, ◌/◌, length, ap, ◌∙◌, subst, ap₂, arith}
 use Rattle.qc.specs.Coding.{encoded}
 use Rattle.qc.specs.Codeblock.{completed}
 use Rattle.qc.proofs.Soundness.{sounds}
 use Rattle.qc.proofs.Tabulated.{tables_hold}
 use Rattle.qc.proofs.ByTable.{given_as, Produced, made_by_table}
 use Rattle.qc.proofs.coders.TableCoderEncoding.encode_block.Goals as goal
-
-pub overflow_mul-segments : goal.overflow_mul-segments
-overflow_mul-segments g c =
-    let few = (sounds _ (g.C.QuasiCyclic.lawful c.args.code)).few in
-    search rules
 
 pub write-requires-clause-table : goal.write-requires-clause-table
 write-requires-clause-table g c =
