@@ -4,3 +4,4 @@ pub mod Tables
 pub mod Codes
 pub mod Refusals
 pub mod Worked
+pub mod Parameters

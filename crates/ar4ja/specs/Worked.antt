@@ -10,7 +10,7 @@ pub record Worked : Type 0 where
   pub given : ℕ
   pub stated : ℕ
 
-abbrev ◌is◌ : ℕ → ℕ → Worked
+abbrev pub ◌is◌ : ℕ → ℕ → Worked
 x is y = record { given = x; stated = y }
 
 infix 20 ◌is◌

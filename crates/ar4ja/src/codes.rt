@@ -1,15 +1,13 @@
 // The three codes.
 ghost use Rattle.std.specs.Prelude.{◌≡◌, true, ◌+◌, length};
 ghost use Rattle.refusal.specs.Outcome.{outcome};
-ghost use Rattle.qc.specs.Shape.{sent, first, second, known, asked, closing, permutations};
-ghost use Rattle.qc.specs.Terms.{terms};
+ghost use Rattle.qc.specs.Shape.{sent};
+ghost use Rattle.ar4ja.specs.Parameters.{ParametersOf};
 ghost use Rattle.ar4ja.specs.Codes.{shape_of, tables_of, shapes_sound, tables_ruled, number_of, named};
 ghost use Rattle.ar4ja.specs.Refusals.{code_fault};
 ghost use Rattle.ar4ja.specs.Worked.{worked, all_agree};
 
-use crate::permutations::*;
-use crate::rows::*;
-use crate::tables::*;
+use crate::parameters::{Parameters, four_fifths, half, two_thirds};
 use qc::{Permutation, QuasiCyclic, Term};
 use refusal::Refusal;
 
@@ -75,77 +73,14 @@ impl Code {
     }
 }
 
-// The parameters of a code: how many message groups and how wide a segment, its lists for the loops, and its
-// tables of first rows.
-#[derive(Drop)]
-struct Parameters {
-    message_groups: usize,
-    segment: usize,
-    table: &'static [Permutation],
-    first_terms: &'static [Term],
-    second_terms: &'static [Term],
-    known_terms: &'static [Term],
-    message_terms: &'static [Term],
-    asked_terms: &'static [Term],
-    closing_terms: &'static [Term],
-    generator: &'static [u32],
-    inverse: &'static [u32],
-}
-
 impl Code {
     fn parameters(self) -> Parameters
-        ensures message_groups { result.message_groups ≡ (shape_of self).K }
-        ensures segment { result.segment ≡ (shape_of self).m }
-        ensures table { result.table.now ≡ permutations (shape_of self) }
-        ensures first_terms { result.first_terms.now ≡ terms (first (shape_of self)) }
-        ensures second_terms { result.second_terms.now ≡ terms (second (shape_of self)) }
-        ensures known_terms { result.known_terms.now ≡ terms (known (shape_of self)) }
-        ensures message_terms { result.message_terms.now ≡ terms (shape_of self).u3 }
-        ensures asked_terms { result.asked_terms.now ≡ terms (asked (shape_of self)) }
-        ensures closing_terms { result.closing_terms.now ≡ terms (closing (shape_of self)) }
-        ensures generator { result.generator.now ≡ (tables_of self).generator }
-        ensures inverse { result.inverse.now ≡ (tables_of self).inverse }
+        ensures { ParametersOf self result }
     {
         match self {
-            Code::Half1024 => Parameters {
-                message_groups: 2,
-                segment: 128,
-                table: &HALF_1024,
-                first_terms: &HALF_FIRST,
-                second_terms: &HALF_SECOND,
-                known_terms: &HALF_THIRD,
-                message_terms: &HALF_MESSAGE,
-                asked_terms: &HALF_ASKED,
-                closing_terms: &HALF_CLOSING,
-                generator: &HALF_GENERATOR,
-                inverse: &HALF_INVERSE,
-            },
-            Code::TwoThirds1024 => Parameters {
-                message_groups: 4,
-                segment: 64,
-                table: &TWO_THIRDS_1024,
-                first_terms: &TWO_THIRDS_FIRST,
-                second_terms: &TWO_THIRDS_SECOND,
-                known_terms: &TWO_THIRDS_THIRD,
-                message_terms: &TWO_THIRDS_MESSAGE,
-                asked_terms: &TWO_THIRDS_ASKED,
-                closing_terms: &TWO_THIRDS_CLOSING,
-                generator: &TWO_THIRDS_GENERATOR,
-                inverse: &TWO_THIRDS_INVERSE,
-            },
-            Code::FourFifths1024 => Parameters {
-                message_groups: 8,
-                segment: 32,
-                table: &FOUR_FIFTHS_1024,
-                first_terms: &FOUR_FIFTHS_FIRST,
-                second_terms: &FOUR_FIFTHS_SECOND,
-                known_terms: &FOUR_FIFTHS_THIRD,
-                message_terms: &FOUR_FIFTHS_MESSAGE,
-                asked_terms: &FOUR_FIFTHS_ASKED,
-                closing_terms: &FOUR_FIFTHS_CLOSING,
-                generator: &FOUR_FIFTHS_GENERATOR,
-                inverse: &FOUR_FIFTHS_INVERSE,
-            },
+            Code::Half1024 => half(),
+            Code::TwoThirds1024 => two_thirds(),
+            Code::FourFifths1024 => four_fifths(),
         }
     }
 }

@@ -4,6 +4,7 @@
 #![tactic(auto)]
 
 mod codes;
+mod parameters;
 mod permutations;
 mod rows;
 mod tables;
