@@ -4,14 +4,11 @@ use Rattle.std.proofs.lemmas.Bool.Decides.{nat_tests}
 use Rattle.element.specs.declared.bits.Bit.{Bit}
 use Rattle.element.specs.declared.bits.Bit.TheVariants.{Zero, One}
 use Rattle.element.specs.Bits.{weight}
+use Rattle.element.proofs.Sizes.{weight_small}
 use Rattle.outlet.specs.Bytes.{bit_of, pack}
 use Rattle.outlet.specs.Packing.{byte_with, byte_form}
 use Rattle.outlet.specs.Storing.{Written}
 use Rattle.outlet.proofs.Tested.{all_below, from_all}
-
-weight_small : (b : Bit) → weight b < 2
-weight_small Zero = omega arith
-weight_small One = omega arith
 
 bit_back : (b : Bit) → cond (eqb (weight b) 0) Zero One ≡ b
 bit_back Zero = refl

@@ -3,3 +3,4 @@ pub mod Tested
 pub mod Recurrence
 pub mod Digits
 pub mod Storings
+pub mod Leveled

@@ -1,5 +1,6 @@
--- That a signed byte is a cell of one bit, and what a store of levels says in terms of levels.
-use Rattle.std.specs.Prelude.{◌≡◌, ℕ, ◌+◌, ◌*◌, ◌/◌, ◌<◌, ◌≤◌, cond, List, [], ◌∷◌, length, map, take, ℤ, pos, nat_lt, slice_index_or, refl}
+-- That a signed byte is a cell of one bit, what a store of levels says in terms of levels, and that the level
+-- outlet is lawful.
+use Rattle.std.specs.Prelude.{◌≡◌, ℕ, ◌+◌, ◌*◌, ◌/◌, ◌<◌, ◌≤◌, cond, List, [], ◌∷◌, length, map, take, ℤ, pos, nat_lt, slice_index_or, vec_len, refl}
 use Rattle.std.proofs.Common.{sym, ap, ◌∙◌, ap₂, inl, inr, arith}
 use Rattle.std.proofs.lemmas.Bool.{cases_lt, lt-ltb, cond-true}
 use Rattle.std.proofs.lemmas.List.{length-map, length-take, get_or-map, get_or-take}
@@ -7,14 +8,18 @@ use Rattle.std.proofs.lemmas.List.FromFn.{fill_by_all}
 use Rattle.std.specs.List.{range_with_len}
 use Rattle.element.specs.declared.bits.Bit.{Bit}
 use Rattle.element.specs.declared.bits.Bit.TheVariants.{Zero}
+use Rattle.outlet.specs.Meaning.{Lawful, lawful_as}
 use Rattle.outlet.specs.Storing.{FormLaws, stored_bit, stored_bits, store_room, Stores, cell_after, cells_after}
+use Rattle.outlet.specs.StoreLaws.{store_lawful}
 use Rattle.outlet.specs.Leveling.{level, level_bit, level_form, level_bits, level_room, Leveled, level_after, levels_after}
+use Rattle.outlet.specs.declared.cell.Cell.{Ghosts}
+use Rattle.outlet.specs.declared.store.Stored.{Stored}
 
 pub level_laws : FormLaws 1 level_form
 level_laws = record { some = omega arith; few = omega arith; same = λ f g h. ap level (h 0 (omega arith)) }
 
 -- the first n levels have n bits
-level_count : (xs : List ℤ) (n : ℕ) → n ≤ length xs → length (level_bits xs n) ≡ n
+pub level_count : (xs : List ℤ) (n : ℕ) → n ≤ length xs → length (level_bits xs n) ≡ n
 level_count xs n h = length-map (take n xs) level_bit ∙ length-take n xs ∙ omega arith
 
 -- a store of levels has room for a bit to each, and its bits are those of its first levels
@@ -70,3 +75,15 @@ levels_after_are old n bits =
     let at : 1 * k ≡ k = omega arith in
     let only : 1 * k + 0 ≡ k = omega arith in
     ap₂ (λ i j. cond (nat_lt i n) (slice_index_or old k (pos 0)) (cond (nat_lt i (length bits)) (level (slice_index_or bits j Zero)) (slice_index_or old k (pos 0)))) at only)
+
+-- what a level outlet is made of
+abbrev pub level_cell : Ghosts ℤ
+level_cell = record { PLACES = 1; form = level_form }
+
+pub levels_lawful : Lawful {S = Stored ℤ level_cell} (λ o. level_bits o.bytes.items o.held) (λ o. level_room (vec_len o.bytes)) (λ o p. Leveled o.bytes.items p.bytes.items o.held p.held)
+levels_lawful =
+    lawful_as (store_lawful 1 level_form (λ o. o.bytes.items) (λ o. vec_len o.bytes) (λ o. o.held) (λ o. o.bytes.ok.0) (λ o. o.fits))
+    (λ o. levels_are o.bytes.items o.held (omega (arith, o.fits, o.bytes.ok.0)))
+    (λ o. level_room_is (vec_len o.bytes))
+    (λ o p. leveled o.bytes.items p.bytes.items o.held p.held)
+    (λ o p. stores_leveled o.bytes.items p.bytes.items o.held p.held)

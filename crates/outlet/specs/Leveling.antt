@@ -1,4 +1,5 @@
--- Bits as levels, one to a signed byte: −1 for 0 and +1 for 1.
+-- Bits as levels, one to a signed byte: −1 for 0 and +1 for 1. What is told here of levels, `Storing` tells of
+-- any cells; it stands beside that since callers read a level by its place alone, not by a place in a cell.
 use Rattle.std.specs.Prelude.{◌≡◌, ℕ, ◌<◌, ◌≤◌, min, cond, ◌⊎◌, List, map, length, take, ℤ, pos, negsuc, nat_lt, slice_index_or}
 use Rattle.std.specs.List.{range_with_len}
 use Rattle.element.specs.declared.bits.Bit.{Bit}

@@ -25,7 +25,8 @@ byte_with byte q w = cond (nat_lt 0 q) (byte / 2 ^ (8 - q) * 2 ^ (8 - q)) 0 + w 
 abbrev pub byte_form : Form ℕ
 byte_form = record { blank = 0; bit = bit_of; whole = pack }
 
--- from bytes of which n bits were held to the bytes after, of which n' are
+-- from bytes of which n bits were held to the bytes after, of which n' are; kept for the law of the packed
+-- outlet, which reads in bytes by it
 abbrev pub Packs : List ℕ → List ℕ → ℕ → ℕ → Type 0
 Packs old new n n' = Stores 8 byte_form old new n n'
 

@@ -10,7 +10,8 @@ pub record Form (C : Type 0) : Type 0 where
   pub bit : C → ℕ → Bit
   pub whole : (ℕ → Bit) → C
 
--- what a cell of `per` bits obeys: there are at most 8, and the cell of bits is told by the first `per` of them
+-- what a cell of `per` bits obeys: there are at most 8, so that the bits of all cells used are counted in a
+-- machine word, and the cell of bits is told by the first `per` of them
 pub record FormLaws {C : Type 0} (per : ℕ) (form : Form C) : Type 0 where
   pub some : 0 < per
   pub few : per ≤ 8

@@ -13,11 +13,12 @@ pub struct Inversion;
 impl Mask for Inversion {
     ghost mask = { λ _. inverting };
 
-    fn at(&self, _place: usize) -> Bit {
+    fn at(self, _place: usize) -> Bit {
         Bit::One
     }
 }
 
+// The complements of the bits below.
 pub type Inverter<O> = Masked<Inversion, O>;
 
 impl<O: Outlet> Inverter<O> {

@@ -13,8 +13,8 @@ pub trait Mask: Copy {
     ghost mask: { Self → ℕ → Bit };
 
     // What is added to the bit at a place.
-    fn at(&self, place: usize) -> Bit
-        ensures { result ≡ mask self.now place };
+    fn at(self, place: usize) -> Bit
+        ensures { result ≡ mask self place };
 }
 
 // The outlet below with the mask added to its bits.

@@ -1,6 +1,5 @@
 // The level outlet.
-ghost use Rattle.outlet.specs.Leveling.{level_form};
-ghost use Rattle.outlet.specs.LevelLaws.{level_laws};
+ghost use Rattle.outlet.specs.LevelLaws.{level_cell, level_laws};
 
 use crate::cell::Cell;
 use crate::store::Stored;
@@ -9,9 +8,9 @@ use element::Bit;
 impl Cell for i8 {
     const PLACES: usize = 1;
 
-    ghost PLACES = { 1 };
+    ghost PLACES = { level_cell.PLACES };
 
-    ghost form = { level_form };
+    ghost form = { level_cell.form };
 
     ghost laws = { level_laws };
 
@@ -20,6 +19,7 @@ impl Cell for i8 {
     }
 
     fn with(self, _q: usize, b: Bit) -> i8 {
+        // By cases: −1 and 1 are not the bit's number.
         match b {
             Bit::Zero => -1,
             Bit::One => 1,

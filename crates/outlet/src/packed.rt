@@ -1,9 +1,9 @@
 // The packed outlet.
 ghost use Rattle.std.specs.Prelude.{◌≡◌, vec_len};
-ghost use Rattle.outlet.specs.Packing.{byte_form, packed_room};
-ghost use Rattle.outlet.specs.PackedLaws.{byte_laws};
+ghost use Rattle.outlet.specs.Packing.{packed_room};
+ghost use Rattle.outlet.specs.PackedLaws.{byte_cell, byte_laws};
 
-use crate::bytes::{byte_bit, with_bit};
+use crate::bytes::byte_bit;
 use crate::cell::Cell;
 use crate::interface::Outlet;
 use crate::store::Stored;
@@ -12,9 +12,9 @@ use element::Bit;
 impl Cell for u8 {
     const PLACES: usize = 8;
 
-    ghost PLACES = { 8 };
+    ghost PLACES = { byte_cell.PLACES };
 
-    ghost form = { byte_form };
+    ghost form = { byte_cell.form };
 
     ghost laws = { byte_laws };
 
@@ -23,7 +23,9 @@ impl Cell for u8 {
     }
 
     fn with(self, q: usize, b: Bit) -> u8 {
-        with_bit(self, q, b)
+        // The bit that opens a byte clears it.
+        let front = if q > 0 { self >> (8 - q) << (8 - q) } else { 0 };
+        front + (u8::from(b) << (7 - q))
     }
 }
 

@@ -21,7 +21,7 @@ pub struct Randomization {
 impl Mask for Randomization {
     ghost mask = { λ r. randomizing r.start r.code };
 
-    fn at(&self, place: usize) -> Bit {
+    fn at(self, place: usize) -> Bit {
         if place < self.start {
             return Bit::Zero;
         }
@@ -34,6 +34,7 @@ impl Mask for Randomization {
     }
 }
 
+// The bits below, with the sequence added to the frames from the start place on.
 pub type Randomizer<O> = Masked<Randomization, O>;
 
 impl<O: Outlet> Randomizer<O> {

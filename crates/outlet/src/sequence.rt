@@ -20,6 +20,7 @@ pub fn randomizing_bit(i: usize) -> Bit
 {
     let k = i % PERIOD;
     let word = TABLE[k / 32];
+    // A call for a bit of any word would be no shorter.
     Bit::from((word >> (31 - k % 32)) % 2 == 1)
 }
 

@@ -1,4 +1,4 @@
-// Stores, outlets over bytes of their own.
+// Stores, outlets over cells of their own.
 ghost use Rattle.std.specs.Prelude.{◌≡◌, ℕ, ◌%◌, ◌≤◌, List, vec_len};
 ghost use Rattle.outlet.specs.Storing.{stored_bits, store_room, Stores, cells_after};
 ghost use Rattle.outlet.specs.StoreLaws.{store_lawful};
@@ -8,10 +8,11 @@ use crate::faults::{PlaceFault, TakeFault};
 use crate::interface::Outlet;
 use element::Bit;
 
-// A store uses no more of its bytes than the first so many.
-const MOST_BYTES: usize = 1_048_576;
+// A store uses no more of its cells than the first so many.
+const MOST_CELLS: usize = 1_048_576;
 
-// Bits in bytes of its own, to each as many as it has places.
+// Bits in cells of its own, as many to a cell as it has places.
+// `held` stands beside the bytes: all of them are handed back, and it counts bits, not bytes.
 #[derive(Drop)]
 pub struct Stored<C: Cell> {
     pub(crate) bytes: Vec<C>,
@@ -20,7 +21,7 @@ pub struct Stored<C: Cell> {
 }
 
 impl<C: Cell> Stored<C> {
-    // An outlet over the bytes that holds no bit.
+    // An outlet over the cells that holds no bit.
     pub fn empty(bytes: Vec<C>) -> Stored<C>
         ensures bytes { result.bytes ≡ bytes }
         ensures held { result.held ≡ 0 }
@@ -28,8 +29,8 @@ impl<C: Cell> Stored<C> {
         Stored { bytes, held: 0 }
     }
 
-    // Hands the bytes back. Since any earlier state of the outlet that held whole bytes, as it was made,
-    // the bytes reached hold the bits taken and the others are unchanged.
+    // Hands the cells back. Since any earlier state of the outlet that held whole cells, as it was made,
+    // the cells reached hold the bits taken and the others are unchanged.
     #[tactic(auto, using(crate::proofs::Storings::stored_since))]
     pub fn into_bytes(self) -> Vec<C>
         ensures bytes { result ≡ self.bytes }
@@ -48,6 +49,7 @@ impl<C: Cell> Outlet for Stored<C> {
 
     ghost kept = { λ o p. Stores C.PLACES C.form o.bytes.items p.bytes.items o.held p.held };
 
+    // Told how to read a store: `Stored` imports what this file does, so the law cannot name it.
     ghost lawful = { store_lawful C.PLACES C.form (λ o. o.bytes.items) (λ o. vec_len o.bytes) (λ o. o.held) (λ o. o.bytes.ok.0) (λ o. o.fits) };
 
     fn take(&mut self, b: Bit) -> Result<(), TakeFault> {
@@ -55,9 +57,10 @@ impl<C: Cell> Outlet for Stored<C> {
         if self.held >= (*self).capacity() {
             return Err(TakeFault::Full);
         }
-        let at = self.held / C::PLACES;
-        let byte = self.bytes[at].with(self.held % C::PLACES, b);
-        self.bytes[at] = byte;
+        let places = C::PLACES;
+        let at = self.held / places;
+        let cell = self.bytes[at].with(self.held % places, b);
+        self.bytes[at] = cell;
         self.held += 1;
         Ok(())
     }
@@ -67,7 +70,7 @@ impl<C: Cell> Outlet for Stored<C> {
     }
 
     fn capacity(&self) -> usize {
-        C::PLACES * self.bytes.len().min(MOST_BYTES)
+        C::PLACES * self.bytes.len().min(MOST_CELLS)
     }
 
     fn bit_at(&self, place: usize) -> Result<Bit, PlaceFault> {

@@ -5,9 +5,10 @@
 ghost use Rattle.std.specs.Prelude.{◌≡◌, [], ◌∷◌, vec_len};
 ghost use Rattle.outlet.specs.Meaning.{taken};
 ghost use Rattle.outlet.specs.Packing.{packed_room, bytes_after};
+ghost use Rattle.outlet.specs.Leveling.{level_room, levels_after};
 
 use element::Bit;
-use outlet::{Outlet, Packed};
+use outlet::{Levels, Outlet, Packed};
 
 #[cfg(test)]
 mod tests;
@@ -28,4 +29,13 @@ pub fn packed_two(bytes: Vec<u8>, a: Bit, b: Bit) -> Vec<u8>
     let mut packed = Packed::empty(bytes);
     put_two(&mut packed, a, b);
     packed.into_bytes()
+}
+
+// The bytes with the levels of two bits at their front.
+pub fn levels_two(bytes: Vec<i8>, a: Bit, b: Bit) -> Vec<i8>
+    ensures { result.items ≡ levels_after bytes.items 0 (taken (b ∷ []) (taken (a ∷ []) [] (level_room (vec_len bytes))) (level_room (vec_len bytes))) }
+{
+    let mut levels = Levels::empty(bytes);
+    put_two(&mut levels, a, b);
+    levels.into_bytes()
 }

@@ -15,12 +15,12 @@ returns g c =
     let xs = o.bytes.items in
     let many = length-map-range_with_len (stored_bit s.PLACES s.form xs) 0 o.held in
     let within = within_cells s.PLACES o.held (vec_len o.bytes) laws.some (omega (arith, c.capacity.ensures)) in
-    let read = get_or_read_under xs (o.held / s.PLACES) (vec_len o.bytes) _ s.form.blank (rw c.PLACES.ensures at c.index.ensures) within o.bytes.ok.0 in
-    let is = subst (λ z. Written s.form z (o.held % s.PLACES) b c.with-byte.result) read (rw c.PLACES-2.ensures at c.with-byte.ensures) in
-    let put = put_cell s.PLACES s.form laws xs o.held b c.with-byte.result (omega (arith, within, o.bytes.ok.0)) is in
+    let read = get_or_read_under xs (o.held / s.PLACES) (vec_len o.bytes) _ s.form.blank (rw c.PLACES-places.ensures at c.index.ensures) within o.bytes.ok.0 in
+    let is = subst (λ z. Written s.form z (o.held % s.PLACES) b c.with-cell.result) read (rw c.PLACES-places.ensures at c.with-cell.ensures) in
+    let put = put_cell s.PLACES s.form laws xs o.held b c.with-cell.result (omega (arith, within, o.bytes.ok.0)) is in
     record {
       answer = grind (arith, nat_tests, many, c.capacity.ensures);
-      after = grind (arith, nat_tests, many, put.0, c.PLACES.ensures, c.capacity.ensures);
+      after = grind (arith, nat_tests, many, put.0, c.PLACES-places.ensures, c.capacity.ensures);
       capacity = refl;
-      rest = rw c.PLACES.ensures put.1;
+      rest = rw c.PLACES-places.ensures put.1;
     }
