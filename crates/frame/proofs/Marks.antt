@@ -1,10 +1,9 @@
--- Bits asked of an outlet, and distances from the marker and from its complement.
+-- Bits of the marker, and distances from it and from its complement.
 use Rattle.std.proofs.Common.{◌≡◌, ℕ, zero, suc, ◌+◌, ◌-◌, ◌<◌, ◌≤◌, Bool, true, false, not, cond, leb, List, get_or, Some, None, Option, sym, refl, ap, ◌∙◌, subst, inl, inr, arith}
 use Rattle.std.proofs.lemmas.Bool.{cases_Bool, cond-true, cond-false, le-leb, lt-leb, leb-true}
 use Rattle.element.specs.declared.bits.Bit.{Bit}
 use Rattle.element.specs.declared.bits.Bit.TheVariants.{Zero, One}
-use Rattle.element.specs.Bits.{bit_plus}
-use Rattle.element.specs.Bits.{bit_if, weight}
+use Rattle.element.specs.Bits.{bit_plus, bit_if, weight}
 use Rattle.frame.specs.declared.faults.Orientation.{Orientation}
 use Rattle.frame.specs.declared.faults.Orientation.TheVariants.{Upright, Complemented}
 use Rattle.frame.specs.Marker.{mark, differing, distance, found, Marked}

@@ -1,9 +1,8 @@
--- The attached sync marker of a frame, and how far the bits at a place are from it.
+-- The attached sync marker of a frame, how far the bits at a place are from it, and which way they stand.
 use Rattle.std.specs.Prelude.{◌≡◌, ℕ, zero, suc, ◌+◌, ◌-◌, ◌/◌, ◌%◌, ◌^◌, ◌≤◌, cond, List, Some, None, Option, ◌==◌, codes, nat_le, nat_lt, slice_index_or}
 use Rattle.element.specs.declared.bits.Bit.{Bit}
 use Rattle.element.specs.declared.bits.Bit.TheVariants.{Zero, One}
-use Rattle.element.specs.Bits.{bit_plus}
-use Rattle.element.specs.Bits.{weight}
+use Rattle.element.specs.Bits.{bit_plus, weight}
 use Rattle.frame.specs.declared.faults.Orientation.{Orientation}
 use Rattle.frame.specs.declared.faults.Orientation.TheVariants.{Upright, Complemented}
 

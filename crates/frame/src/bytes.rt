@@ -5,7 +5,7 @@ ghost use Rattle.outlet.specs.Bytes.{pack};
 ghost use Rattle.frame.specs.Message.{message_len, message_bytes};
 
 use ar4ja::Code;
-use element::Bit;
+use element::{Bit, number_of};
 use qc::QuasiCyclic;
 
 // How many bytes a message of a code has.
@@ -20,11 +20,7 @@ fn byte_from(run: &[Bit], from: usize) -> u8
     requires { from + 8 ≤ length run.now }
     ensures { result ≡ pack (λ j. slice_index_or run.now (from + j) Zero) }
 {
-    let mut byte = 0;
-    for i in 0..8 {
-        byte = 2 * byte + u8::from(run[from + i]);
-    }
-    byte
+    number_of(&run[from..from + 8]) as u8
 }
 
 // Fills the message with the bytes of the bits at the front of the run.

@@ -12,5 +12,6 @@ const MARKER: u64 = 0xfcb88938d8d76a4f;
 pub fn marker_bit(i: usize) -> Bit
     ensures { result ≡ mark i }
 {
+    // A call for a bit of any word would be no shorter.
     Bit::from(i < MARKER_LEN && (MARKER >> (63 - i)) % 2 != 0)
 }

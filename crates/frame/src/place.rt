@@ -15,9 +15,9 @@ use element::{Bit, Element};
 use outlet::{MARKER_LEN, Outlet, randomizing_bit};
 use qc::QuasiCyclic;
 
-// A place from which on the outlet holds as many bits as a frame of the code has.
+// A frame of the code, or what stands in its place: as many bits, from `start` on, that the outlet holds.
 #[derive(Drop)]
-pub(crate) struct Place<'a, O: Outlet> {
+pub(crate) struct Frame<'a, O: Outlet> {
     pub(crate) outlet: &'a O,
     pub(crate) start: usize,
     pub(crate) code: Code,
@@ -25,7 +25,7 @@ pub(crate) struct Place<'a, O: Outlet> {
     ghost fits: { start + frame_bits code < 2 ^ 64 },
 }
 
-impl<'a, O: Outlet> Place<'a, O> {
+impl<'a, O: Outlet> Frame<'a, O> {
     // Bit `i` from the place on.
     fn bit(&self, i: usize) -> Bit
         requires { i < frame_bits self.now.code }

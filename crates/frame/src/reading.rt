@@ -9,7 +9,7 @@ ghost use Rattle.frame.specs.Reading.{MarkedCodeblock, due, read_answer, read_ru
 
 use crate::bytes::{gather, message_len};
 use crate::faults::{Orientation, ReadFault};
-use crate::place::Place;
+use crate::place::Frame;
 use ar4ja::Code;
 use element::Bit;
 use outlet::Outlet;
@@ -70,7 +70,7 @@ pub fn read<O: Outlet>(
         message.len(),
         run.len(),
     )?;
-    let frame = Place {
+    let frame = Frame {
         outlet,
         start: place,
         code,

@@ -7,13 +7,12 @@ use Rattle.std.proofs.lemmas.Bool.{cond-true, cond-false, eq-eqb, le-ltb, le-leb
 use Rattle.refusal.specs.Outcome.{Outcome, Outcome.done, outcome}
 use Rattle.element.specs.declared.bits.Bit.{Bit}
 use Rattle.element.specs.declared.bits.Bit.TheVariants.{Zero, One}
-use Rattle.element.specs.Bits.{bit_plus}
+use Rattle.element.specs.Bits.{bit_plus, weight}
 use Rattle.qc.specs.Shape.{M, sent, whole}
 use Rattle.qc.specs.Codeblock.{groups, Codeblock}
 use Rattle.ar4ja.specs.declared.codes.Code.{Code}
 use Rattle.ar4ja.specs.declared.codes.Code.TheVariants.{Half1024, TwoThirds1024, FourFifths1024}
 use Rattle.ar4ja.specs.Codes.{shape_of}
-use Rattle.element.specs.Bits.{weight}
 use Rattle.outlet.specs.Masks.{frame_bits}
 use Rattle.outlet.specs.Sequence.{s}
 use Rattle.outlet.proofs.Layered.{plus_zero}

@@ -17,7 +17,7 @@ use Rattle.qc.proofs.Tabulated.{Tabulated, tables_hold}
 use Rattle.qc.proofs.Completion.{completed_length, completed_front, completed_rest}
 use Rattle.qc.proofs.Encoded.{parity_length, parity_front, encoded_length, encoded_rest}
 use Rattle.qc.proofs.CodingLaws.{encoded_zero, is_coded}
-use Rattle.qc.proofs.Verdicts.{zero_codeblock, codeblock_zero}
+use Rattle.qc.proofs.Codeblocks.{zero_codeblock, codeblock_zero}
 use Rattle.qc.proofs.Mapped.{codeblock_same}
 use Rattle.ar4ja.specs.declared.codes.Code.{Code}
 use Rattle.ar4ja.specs.declared.codes.Code.TheVariants.{Half1024, TwoThirds1024, FourFifths1024}

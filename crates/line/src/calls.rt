@@ -31,8 +31,8 @@ fn send_due(code: Code, left: usize, message: usize, run: usize) -> Result<(), S
     Ok(())
 }
 
-// The first reason not to read a frame back, with so many sent. It shares the lengths alone with `send_due`:
-// a test of these for both, with a fault and two conversions of its own, is no shorter.
+// The first reason not to read a frame back, with so many sent. This test, that of a send and that of a reading share two
+// lengths alone: one test of these, with a fault of its own and a conversion into each operation's, is no shorter.
 fn read_back_due(
     code: Code,
     done: usize,

@@ -11,7 +11,7 @@ use ar4ja::Code;
 use outlet::Outlet;
 use qc::Coder;
 
-// Puts one call to the line: its buffers are worked in, and its answer is noted.
+// Puts one call to the line, by a match, since a list of calls is data that the promise speaks of: its buffers are worked in, and its answer is noted.
 fn serve<C: Coder, O: Outlet>(line: &mut Line<C, O>, call: &mut Call)
     ensures calls { (b : Book) → Follows O.bits O.room b line.old → seen call.new ≡ served b (seen call.old) }
     ensures book { (b : Book) → Follows O.bits O.room b line.old → Follows O.bits O.room (turned b (seen call.old)) line.new }

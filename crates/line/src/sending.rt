@@ -18,7 +18,8 @@ pub(crate) fn spread(message: &[u8], run: &mut [Bit])
     }
 }
 
-// Gives the outlet the marker, whose bits are worked out one by one and stand in no slice.
+// Gives the outlet the marker. An array of its bits for `put_bits` to give wants a clause on the closure that makes it and
+// a lemma on the array, and is no plainer.
 pub(crate) fn put_marker<O: Outlet>(out: &mut O)
     requires { length (O.bits out.old) + 64 ≤ O.room out.old }
     ensures bits { O.bits out.new ≡ O.bits out.old ++ marker }

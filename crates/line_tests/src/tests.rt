@@ -32,6 +32,7 @@ fn frame_bytes(heap: Global, code: Code, first: u8) -> Result<Vec<u8>, AllocErro
 
 // Adds one to so many bits from the first on.
 fn flip(bytes: &mut [u8], count: usize) {
+    // By number: bits lie in no slice.
     for i in 0..count {
         if let Some(byte) = bytes.get_mut(i / 8) {
             *byte ^= 128u8 >> (i % 8);
@@ -55,6 +56,7 @@ fn room_for_one_frame(rt: HostRuntime) -> Result<(), Fail> {
                 Levels::empty(vec![in rt.alloc(); 0i8; places]?),
             );
             let mut work = run(rt.alloc(), code)?;
+            // By number: the first so many sends are done.
             for k in 0..3usize {
                 let due = if k < sends {
                     Ok(())

@@ -1,14 +1,10 @@
 -- Worked values: what the definitions give, beside what it has to be.
 use Rattle.std.specs.Prelude.{List, [], ◌∷◌, ◌++◌, ℕ, ◌+◌, ◌*◌}
-use Rattle.ar4ja.specs.Worked.{Worked, worked as of_codes}
+use Rattle.ar4ja.specs.Worked.{Worked, ◌is◌, worked as of_codes}
 use Rattle.outlet.specs.Bytes.{pack}
 use Rattle.outlet.specs.Sequence.{byte_from}
 use Rattle.frame.specs.Marker.{mark}
 
-abbrev ◌is◌ : ℕ → ℕ → Worked
-x is y = record { given = x; stated = y }
-
-infix 20 ◌is◌
 -- byte k of the attached sync marker
 abbrev marker_byte : ℕ → ℕ
 marker_byte k = pack (λ j. mark (8 * k + j))

@@ -1,6 +1,6 @@
 use Rattle.std.proofs.Common.{refl, arith}
 use Rattle.frame.proofs.Marks.{distances, found_complemented, found_none}
-use Rattle.frame.proofs.place.Place.find_marker.Goals as goal
+use Rattle.frame.proofs.place.Frame.find_marker.Goals as goal
 
 pub overflow_sub-other : goal.overflow_sub-other
 overflow_sub-other g c = omega (arith, distances (g.O.Outlet.bits c.args.self.now.outlet.now) c.args.self.now.start, c.distance-differ.ensures)

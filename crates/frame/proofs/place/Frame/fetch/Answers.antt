@@ -4,7 +4,7 @@ use Rattle.element.specs.declared.bits.Bit.TheVariants.{Zero}
 use Rattle.element.specs.Bits.{bit_plus}
 use Rattle.frame.specs.Reading.{received_bit}
 use Rattle.frame.proofs.Filling.{filled_more}
-use Rattle.frame.proofs.place.Place.fetch.Goals as goal
+use Rattle.frame.proofs.place.Frame.fetch.Goals as goal
 
 pub loop-i-preserved : goal.loop-i-preserved
 loop-i-preserved g c =

@@ -2,7 +2,7 @@ use Rattle.std.proofs.Common.{◌≡◌, ◌+◌, ◌≤◌, get_or}
 use Rattle.element.specs.declared.bits.Bit.TheVariants.{Zero}
 use Rattle.element.specs.Bits.{bit_plus}
 use Rattle.frame.specs.Marker.{mark, differing}
-use Rattle.frame.proofs.place.Place.distance.Given as goal
+use Rattle.frame.proofs.place.Frame.distance.Given as goal
 
 abbrev pub invariant-loop-i : goal.invariant-loop-i
 invariant-loop-i g l =

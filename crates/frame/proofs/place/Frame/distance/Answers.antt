@@ -2,7 +2,7 @@ use Rattle.std.proofs.Common.{◌≡◌, ◌+◌, get_or, ap, ◌∙◌, arith}
 use Rattle.element.specs.declared.bits.Bit.TheVariants.{Zero}
 use Rattle.element.specs.Bits.{bit_plus}
 use Rattle.frame.specs.Marker.{mark, differing, distance}
-use Rattle.frame.proofs.place.Place.distance.Goals as goal
+use Rattle.frame.proofs.place.Frame.distance.Goals as goal
 
 pub returns : goal.returns
 unfolding distance
