@@ -1,12 +1,12 @@
 -- Each answer of a fill comes exactly when it is due.
-use Rattle.std.proofs.Common.{◌≡◌, ℕ, ◌<◌, ◌≤◌, ◌≢◌, ◌↔◌, List, length, sym, refl, ap, ◌∙◌, arith}
+use Rattle.std.proofs.Common.{◌≡◌, ℕ, ◌≢◌, ◌↔◌, List, sym, refl, ap, ◌∙◌, arith}
 use Rattle.refusal.specs.Outcome.{Outcome.done, Outcome.refused}
-use Rattle.element.specs.declared.affine.Form.{Form}
+use Rattle.element.specs.declared.forms.Form.{Form}
 use Rattle.qc.specs.Shape.{Shape}
-use Rattle.erasure.specs.Marks.{Mark, erasures}
+use Rattle.erasure.specs.Marks.{Mark}
 use Rattle.erasure.specs.Fits.{NoneFits, OneFits, TwoFit}
 use Rattle.erasure.specs.declared.faults.FillFault.TheVariants as fault
-use Rattle.erasure.specs.Fill.{Answer, refusal, Sized, Fillable, Answers}
+use Rattle.erasure.specs.Fill.{Answer, refusal, Fillable, Answers}
 
 -- the number of an answer
 told : Answer → ℕ
@@ -32,43 +32,7 @@ given o b = ((λ _. b), (λ _. refl))
 one_two : (c : Shape) (ms : List Mark) → OneFits c ms → TwoFit c ms → ⊥
 one_two c ms (b, o) (x, (y, (f, (g, ne)))) = ne (o.only x f ∙ sym (o.only y g))
 
-module _ (c : Shape) (ms : List Mark) (xs : List Form) (ws : List ℕ) where
-  pub wrong_lengths : (Sized c ms xs → ⊥) → Answers c ms xs ws (refusal fault.WrongLengths)
-  unfolding told
-  wrong_lengths no_size =
-      record {
-        lengths = given _ no_size;
-        short = apart _ _ (λ e. omega arith) (λ d. no_size d.0);
-        many = apart _ _ (λ e. omega arith) (λ d. no_size d.0);
-        none = apart _ _ (λ e. omega arith) (λ d. no_size d.0.sized);
-        two = apart_several _ (λ e. omega arith) (λ d. no_size d.0.sized);
-        one = apart _ _ (λ e. omega arith) (λ d. no_size d.0.sized);
-      }
-
-  pub short_list : Sized c ms xs → length ws < 64 → Answers c ms xs ws (refusal fault.ShortList)
-  unfolding told
-  short_list size low =
-      record {
-        lengths = apart _ _ (λ e. omega arith) (λ d. d size);
-        short = given _ (size, low);
-        many = apart _ _ (λ e. omega arith) (λ d. omega (arith, d.1.0));
-        none = apart _ _ (λ e. omega arith) (λ d. omega (arith, d.0.room));
-        two = apart_several _ (λ e. omega arith) (λ d. omega (arith, d.0.room));
-        one = apart _ _ (λ e. omega arith) (λ d. omega (arith, d.0.room));
-      }
-
-  pub too_many : Sized c ms xs → 64 ≤ length ws → 64 < erasures ms → Answers c ms xs ws (refusal fault.TooManyErased)
-  unfolding told
-  too_many size room high =
-      record {
-        lengths = apart _ _ (λ e. omega arith) (λ d. d size);
-        short = apart _ _ (λ e. omega arith) (λ d. omega (arith, d.1));
-        many = given _ (size, (room, high));
-        none = apart _ _ (λ e. omega arith) (λ d. omega (arith, d.0.few));
-        two = apart_several _ (λ e. omega arith) (λ d. omega (arith, d.0.few));
-        one = apart _ _ (λ e. omega arith) (λ d. omega (arith, d.0.few));
-      }
-
+module _ {c : Shape} {ms : List Mark} {xs : List Form} {ws : List ℕ} where
   module _ (able : Fillable c ms xs ws) where
     pub none_answer : NoneFits c ms → Answers c ms xs ws (refusal fault.NoneFits)
     unfolding told

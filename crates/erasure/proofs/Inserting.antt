@@ -3,27 +3,36 @@ use Rattle.std.proofs.Common.{◌≡◌, ℕ, ◌+◌, ◌<◌, true, false, Lis
 use Rattle.std.proofs.lemmas.List.{get_or-set_same, get_or-set_other}
 use Rattle.element.specs.declared.bits.Bit.{Bit}
 use Rattle.element.specs.declared.bits.Bit.TheVariants.{Zero, One}
-use Rattle.element.specs.declared.affine.Form.{Form}
+use Rattle.element.specs.declared.forms.Form.{Form}
 use Rattle.element.specs.Bits.{bit_plus, bit_laws}
 use Rattle.element.specs.Forms.{form_zero}
 use Rattle.erasure.specs.Unknowns.{member, both, value, pivot, Solves, Reduced, Cleared, added}
 use Rattle.erasure.specs.Demands.{Same, Inserted, Zeros}
 use Rattle.qc.proofs.Sums.{right}
 use Rattle.erasure.proofs.Values.{dot_none}
-use Rattle.erasure.proofs.Pivoting.{Pivoted, solves_old, solves_form, solves_new}
+use Rattle.erasure.proofs.Pivoting.{Pivoted, solves_old, solves_form, solves_new, still_reduced}
 
-pub pivoted : (u : ℕ) (t : List Form) (g : Form) (k : ℕ) (v : List Form) → k < length v
+pivoted : (u : ℕ) (t : List Form) (g : Form) (k : ℕ) (v : List Form) → k < length v
     → ((p : ℕ) → p < u → pivot v p ≡ added (member (pivot t p).unknowns k) (pivot t p) g) → Pivoted u t g k (set v k g)
 pivoted u t g k v hk h =
     record { here = get_or-set_same v k g form_zero hk; there = λ p hp ne. get_or-set_other v k p g form_zero ne ∙ h p hp }
 
-pub inserted : (u : ℕ) (t : List Form) → Reduced u t → (f g : Form) → Cleared u u t f g → (k : ℕ) → k < u → member g.unknowns k ≡ One
+inserted : (u : ℕ) (t : List Form) → Reduced u t → (f g : Form) → Cleared u u t f g → (k : ℕ) → k < u → member g.unknowns k ≡ One
     → (v : List Form) → Pivoted u t g k v → Inserted u t f v true
 inserted u t red f g so k hk o v pv =
     record {
       to = λ s z. (solves_old u t red f g so k hk o v pv s z, solves_form u t red f g so k hk o v pv s z);
       from = λ s z. solves_new u t red f g so k hk o v pv s z.0 z.1;
     }
+
+-- the form put in the row of its unknown k, after it was added to the rows that have k
+module _ (u : ℕ) (t : List Form) (red : Reduced u t) (f g : Form) (so : Cleared u u t f g) (k : ℕ) (at : (k < u) × (member g.unknowns k ≡ One))
+    (v : List Form) (room : k < length v) (made : (p : ℕ) → p < u → pivot v p ≡ added (member (pivot t p).unknowns k) (pivot t p) g) where
+  pub placed_reduced : Reduced u (set v k g)
+  placed_reduced = still_reduced u t red f g so k at.0 at.1 (set v k g) (pivoted u t g k v room made)
+
+  pub placed_inserted : Inserted u t f (set v k g) true
+  placed_inserted = inserted u t red f g so k at.0 at.1 (set v k g) (pivoted u t g k v room made)
 
 -- a form with no unknowns left
 module _ (u : ℕ) (t : List Form) (f g : Form) (so : Cleared u u t f g) (none : (k : ℕ) → k < u → member g.unknowns k ≡ Zero) where

@@ -1,12 +1,12 @@
 -- The outcomes of a fill, from what its parts do.
-use Rattle.std.proofs.Common.{◌≡◌, ℕ, ◌*◌, ◌<◌, ◌≤◌, cond, Result, Ok, Err, List, length, get_or, sym, refl, ap, ◌∙◌, subst, arith}
+use Rattle.std.proofs.Common.{◌≡◌, ℕ, ◌*◌, ◌<◌, cond, Result, Ok, Err, List, length, get_or, sym, refl, ap, ◌∙◌, subst, arith}
 use Rattle.std.proofs.lemmas.Bool.{le-ltb}
 use Rattle.element.specs.declared.bits.Bit.{Bit}
 use Rattle.element.specs.declared.bits.Bit.TheVariants.{Zero}
-use Rattle.element.specs.declared.affine.Form.{Form}
+use Rattle.element.specs.declared.forms.Form.{Form}
 use Rattle.element.specs.Forms.{form_zero, form_plus}
 use Rattle.refusal.specs.Outcome.{Outcome.done}
-use Rattle.qc.specs.Shape.{Shape, M, sent, whole}
+use Rattle.qc.specs.Shape.{Shape, M, whole}
 use Rattle.qc.specs.Codeblock.{completed}
 use Rattle.qc.specs.Check.{checked_run}
 use Rattle.qc.proofs.Soundness.{Sound}
@@ -17,13 +17,12 @@ use Rattle.erasure.specs.Demands.{RowsZero}
 use Rattle.erasure.specs.Solutions.{Means}
 use Rattle.erasure.specs.Marks.{Mark, mark_at, rank, erasures, laid, written, filled_of, Marked}
 use Rattle.erasure.specs.Places.{Places}
-use Rattle.erasure.specs.declared.faults.FillFault.{FillFault}
 use Rattle.erasure.specs.declared.faults.FillFault.TheVariants as fault
 use Rattle.erasure.specs.Fill.{Answer, refusal, listed, Fillable, Answers, MarksAfter, forms_after, PlacesAfter}
 use Rattle.erasure.proofs.Laying.{laid_length}
 use Rattle.erasure.proofs.Fitting.{room, none_fits, only_fits, filled_known, marked_open, open_marked, two_fit}
 use Rattle.erasure.proofs.Exact.{none_answer, several_answer, one_answer}
-use Rattle.erasure.proofs.Left.{forms_written, forms_kept, none_listed, some_listed}
+use Rattle.erasure.proofs.Left.{forms_written, none_listed, some_listed}
 
 -- what a fill promises of an answer
 pub record Done (c : Shape) (ms vs : List Mark) (xs ys : List Form) (ws ls : List ℕ) (o : Answer) : Type 0 where
@@ -32,18 +31,8 @@ pub record Done (c : Shape) (ms vs : List Mark) (xs ys : List Form) (ws ls : Lis
   pub forms : ys ≡ forms_after c ms xs ws
   pub places : PlacesAfter c ms xs ws ls (listed o)
 
--- refused for its lengths or for too many erased symbols, it changes nothing
-pub turned_down : (c : Shape) (ms : List Mark) (xs : List Form) (ws : List ℕ) (f : FillFault) → listed (refusal f) ≡ 0 → (Fillable c ms xs ws → ⊥) → Answers c ms xs ws (refusal f) → Done c ms ms xs xs ws ws (refusal f)
-turned_down c ms xs ws f no_place unable a =
-    record { answer = a; marks = refl; forms = forms_kept c ms xs ws unable; places = subst (PlacesAfter c ms xs ws ws) (sym no_place) (none_listed c ms xs ws (λ able. absurd (unable able))) }
-
--- what the tests of a fill that goes on say
-pub may_fill : (c : Shape) (ms : List Mark) (xs : List Form) (ws : List ℕ) (block buffer u : ℕ) → length ms ≡ block → block ≡ sent c → buffer ≤ length xs → buffer ≡ whole c
-    → 64 ≤ length ws → u ≤ 64 → u ≡ erasures ms → Fillable c ms xs ws
-may_fill c ms xs ws block buffer u a b d e f g h = record { sized = (a ∙ b, omega arith); room = f; few = omega arith }
-
-module _ (c : Shape) (ok : Sound c) (ms : List Mark) (xs : List Form) (ws : List ℕ) (able : Fillable c ms xs ws)
-    (u : ℕ) (count : u ≡ erasures ms) (ls ys : List Form) (put : ls ≡ laid ms xs) (checked : ys ≡ checked_run form_zero form_plus c ls) where
+module _ {c : Shape} (ok : Sound c) {ms : List Mark} {xs : List Form} {ws : List ℕ} (able : Fillable c ms xs ws)
+    {u : ℕ} (count : u ≡ erasures ms) {ls ys : List Form} (put : ls ≡ laid ms xs) (checked : ys ≡ checked_run form_zero form_plus c ls) where
   is_written : ys ≡ written c ms xs
   is_written =
       checked ∙ ap (checked_run form_zero form_plus c) put
@@ -60,7 +49,7 @@ module _ (c : Shape) (ok : Sound c) (ms : List Mark) (xs : List Form) (ws : List
   absent e h =
       let none = none_fits c ok ms able.sized.0 xs able.sized.1 (moved (Err e) h) in
       record {
-        answer = none_answer c ms xs ws able none;
+        answer = none_answer able none;
         marks = refl;
         forms = is_written ∙ forms_written c ms xs ws able;
         places = none_listed c ms xs ws (λ _ i o. none o.0 o.1.1.0);
@@ -71,7 +60,7 @@ module _ (c : Shape) (ok : Sound c) (ms : List Mark) (xs : List Form) (ws : List
   single bits h vs long made =
       let one = only_fits c ok ms able.sized.0 xs able.sized.1 bits (moved (Ok (Single bits)) h) in
       record {
-        answer = one_answer c ms xs ws able (_, one);
+        answer = one_answer able (_, one);
         marks = (_, (one, filled_known c ok ms able.sized.0 xs able.sized.1 bits (moved (Ok (Single bits)) h) vs long made));
         forms = is_written ∙ forms_written c ms xs ws able;
         places = none_listed c ms xs ws
@@ -83,7 +72,7 @@ module _ (c : Shape) (ok : Sound c) (ms : List Mark) (xs : List Form) (ws : List
   many set n h vs long so =
       let found = moved (Ok (Several set)) h in
       record {
-        answer = several_answer c ms xs ws able n (two_fit c ok ms able.sized.0 xs able.sized.1 set found);
+        answer = several_answer able n (two_fit c ok ms able.sized.0 xs able.sized.1 set found);
         marks = refl;
         forms = is_written ∙ forms_written c ms xs ws able;
         places = some_listed c ms xs ws set n vs long

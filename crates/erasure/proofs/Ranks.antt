@@ -2,25 +2,24 @@
 use Rattle.std.proofs.Common.{◌≡◌, ℕ, zero, suc, ◌+◌, ◌-◌, ◌<◌, ◌≤◌, ◌≢◌, ◌⊎◌, true, false, Some, None, List, length, get_or, set, take, count_by, sym, refl, ap, ◌∙◌, subst, inl, inr, add-one, arith, below_more}
 use Rattle.std.proofs.Math.Seq.{take-length}
 use Rattle.std.specs.Option.{is_some, is_none}
-use Rattle.std.proofs.lemmas.Bool.{false≢true}
+use Rattle.std.proofs.lemmas.Bool.{false≢true, cases_eq}
 use Rattle.std.proofs.lemmas.List.{get_or-set_same, get_or-set_other, get_or_default}
 use Rattle.std.proofs.lemmas.List.Sums.{count_by_more_no, count_by_more_yes}
 use Rattle.element.specs.declared.bits.Bit.TheVariants.{Zero}
 use Rattle.erasure.specs.Places.{Places}
-use Rattle.std.proofs.lemmas.Bool.{cases_eq}
 use Rattle.erasure.specs.Marks.{Mark, mark_at, gap, rank, erasures}
 
-pub rank_step : (ms : List Mark) (i : ℕ) → rank ms (i + 1) ≡ rank ms i + gap (mark_at ms i)
+rank_step : (ms : List Mark) (i : ℕ) → rank ms (i + 1) ≡ rank ms i + gap (mark_at ms i)
 rank_step ms i = ap (rank ms) (add-one i)
 
-pub rank_erased : (ms : List Mark) (i : ℕ) → mark_at ms i ≡ None → rank ms (i + 1) ≡ rank ms i + 1
+rank_erased : (ms : List Mark) (i : ℕ) → mark_at ms i ≡ None → rank ms (i + 1) ≡ rank ms i + 1
 rank_erased ms i e = ap (rank ms) (add-one i) ∙ ap (λ k. rank ms i + gap k) e
 
-pub rank_more : (ms : List Mark) (i d : ℕ) → rank ms i ≤ rank ms (i + d)
+rank_more : (ms : List Mark) (i d : ℕ) → rank ms i ≤ rank ms (i + d)
 rank_more ms i zero = let e : i + 0 ≡ i = omega arith in let f = ap (rank ms) e in omega arith
 rank_more ms i (suc d) = let e : i + suc d ≡ suc (i + d) = omega arith in let f = ap (rank ms) e in let g = rank_more ms i d in omega arith
 
-pub rank_le : (ms : List Mark) (i n : ℕ) → i ≤ n → rank ms i ≤ rank ms n
+rank_le : (ms : List Mark) (i n : ℕ) → i ≤ n → rank ms i ≤ rank ms n
 rank_le ms i n h = let d : i + (n - i) ≡ n = omega arith in omega (arith, rank_more ms i (n - i), ap (rank ms) d)
 
 -- the unknown of an erased place is below their number
@@ -51,11 +50,11 @@ module _ (ms : List Mark) (i k : ℕ) (count : k ≡ rank ms i) (m : Mark) (read
   pub count_known : is_some m ≡ true → k ≡ rank ms (i + 1)
   count_known e = omega (arith, rank_step ms i, known m e, ap gap read)
 
-pub count_few : (ms : List Mark) (i k : ℕ) → i < length ms → k ≡ rank ms i → is_some (get_or ms i None) ≡ false → erasures ms ≤ 64 → k < 64
-count_few ms i k h count e few = omega (arith, count_lt ms i k count (get_or ms i None) (mark_read ms i h) h e)
+pub count_few : (ms : List Mark) {i k : ℕ} → k ≡ rank ms i → i < length ms → is_some (get_or ms i None) ≡ false → erasures ms ≤ 64 → k < 64
+count_few ms {i} {k} count h e few = omega (arith, count_lt ms i k count (get_or ms i None) (mark_read ms i h) h e)
 
 -- the erased marks are counted
-pub rank_count : (ms : List Mark) (n : ℕ) → n ≤ length ms → rank ms n ≡ count_by is_none (take n ms)
+rank_count : (ms : List Mark) (n : ℕ) → n ≤ length ms → rank ms n ≡ count_by is_none (take n ms)
 rank_count ms zero h = refl
 rank_count ms (suc n) h =
     go (rank_count ms n (omega arith)) (mark_at ms n) refl ∙ ap (λ k. count_by is_none (take k ms)) (add-one n)

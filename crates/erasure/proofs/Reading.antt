@@ -1,20 +1,26 @@
 -- The verdict from the rows.
-use Rattle.std.proofs.Common.{◌≡◌, ℕ, zero, suc, ◌+◌, ◌^◌, ◌<◌, ◌≢◌, Result, Ok, Err, List, get_or, replicate, sym, refl, ap, ◌∙◌, arith, below_more}
+use Rattle.std.proofs.Common.{◌≡◌, ℕ, zero, suc, ◌+◌, ◌^◌, ◌<◌, ◌≤◌, ◌≢◌, Result, Ok, Err, List, get_or, replicate, sym, refl, ap, ◌∙◌, arith, below_more}
 use lib.Bits.{bit_or}
 use Rattle.element.specs.declared.bits.Bit.{Bit}
 use Rattle.element.specs.declared.bits.Bit.TheVariants.{Zero, One}
-use Rattle.element.specs.declared.affine.Form.{Form}
+use Rattle.element.specs.declared.forms.Form.{Form}
 use Rattle.element.specs.Bits.{bit_plus}
 use Rattle.element.specs.Forms.{form_zero}
 use Rattle.erasure.specs.declared.elimination.Contradiction.{Contradiction}
 use Rattle.erasure.specs.declared.solutions.Solutions.{Solutions}
 use Rattle.erasure.specs.declared.solutions.Solutions.TheVariants.{Single, Several}
 use Rattle.erasure.specs.Unknowns.{member, both, value, pivot, Solves, Reduced}
-use Rattle.erasure.specs.Solutions.{Only, Many, Differ, Settled, Means, Sorted}
+use Rattle.erasure.specs.Solutions.{Only, Many, Differ, Settled, Means}
 use Rattle.erasure.specs.Demands.{Same}
 use Rattle.erasure.proofs.Sets.{either_of, member_or, member_own, member_other}
 use Rattle.erasure.proofs.Values.{apart, dot_ext, value_zero}
 use Rattle.erasure.proofs.Repairing.{repair, repaired}
+
+-- the first k unknowns of a table, sorted into those in which solutions differ and the others
+pub record Sorted (u : ℕ) (t : List Form) (k : ℕ) (set : ℕ) : Type 0 where
+  pub inside : (j : ℕ) → j < k → member set j ≡ One → Differ (Solves u t) j
+  pub outside : (j : ℕ) → j < k → member set j ≡ Zero → Settled (Solves u t) j (pivot t j).bit
+  pub rest : (j : ℕ) → k ≤ j → member set j ≡ Zero
 
 module _ (u : ℕ) (t : List Form) where
   pub sorted_closed : (k o : ℕ) → Sorted u t k o → Settled (Solves u t) k (pivot t k).bit → Sorted u t (k + 1) o

@@ -1,13 +1,16 @@
 -- Sets of unknowns, stored as numbers.
-use Rattle.std.proofs.Common.{◌≡◌, ℕ, zero, suc, ◌+◌, ◌-◌, ◌*◌, ◌/◌, ◌%◌, ◌^◌, ◌<◌, ◌≤◌, ◌≢◌, ◌⊎◌, sym, refl, ap, ◌∙◌, inl, inr, one-mul, arith, pow-add}
+use Rattle.std.proofs.Common.{◌≡◌, ℕ, zero, suc, ◌+◌, ◌-◌, ◌*◌, ◌/◌, ◌%◌, ◌^◌, ◌<◌, ◌≤◌, ◌≢◌, ◌⊎◌, eqb, sym, refl, ap, ◌∙◌, inl, inr, one-mul, arith, pow-add}
 use Rattle.std.proofs.lemmas.Bool.{cases_eq, cases_lt}
 use native.Mathlib.Nat.{zero-div, div-eq_of_lt}
 use lib.Bits.{bit_xor, bit_or, xor_shr, xor_mod, or_shr, or_mod}
 use lib.Pow.{pow-lt, shl-shr}
 use Rattle.element.specs.declared.bits.Bit.{Bit}
 use Rattle.element.specs.declared.bits.Bit.TheVariants.{Zero, One}
-use Rattle.element.specs.Bits.{bit_plus}
-use Rattle.erasure.specs.Unknowns.{odd, member}
+use Rattle.element.specs.Bits.{bit_plus, bit_if}
+use Rattle.erasure.specs.Unknowns.{member}
+
+abbrev odd : ℕ → Bit
+odd n = bit_if (eqb n 1)
 
 odd_xor : (a b : ℕ) → a < 2 → b < 2 → odd (bit_xor a b) ≡ bit_plus (odd a) (odd b)
 odd_xor zero zero ha hb = refl

@@ -2,7 +2,7 @@
 use Rattle.std.specs.Prelude.{◌≡◌, ℕ, ◌<◌, Bool, true, false, List, length}
 use Rattle.element.specs.declared.bits.Bit.{Bit}
 use Rattle.element.specs.declared.bits.Bit.TheVariants.{Zero}
-use Rattle.element.specs.declared.affine.Form.{Form}
+use Rattle.element.specs.declared.forms.Form.{Form}
 use Rattle.element.specs.Forms.{form_zero, form_plus}
 use Rattle.qc.specs.Shape.{Shape, M}
 use Rattle.qc.specs.Codeblock.{row, groups}

@@ -1,7 +1,7 @@
 -- What a fill answers, and what it leaves in the marks, the work buffer and the list of places.
 use Rattle.std.specs.Prelude.{◌≡◌, ℕ, ◌<◌, ◌≤◌, Bool, cond, ◌&&◌, ◌≢◌, ◌↔◌, Some, List, map, length, drop, ◌==◌, nat_le, slice_index}
 use Rattle.element.specs.declared.bits.Bit.{Bit}
-use Rattle.element.specs.declared.affine.Form.{Form}
+use Rattle.element.specs.declared.forms.Form.{Form}
 use Rattle.refusal.specs.Outcome.{Outcome, Outcome.done, Outcome.refused}
 use Rattle.qc.specs.Shape.{Shape, sent, whole}
 use Rattle.erasure.specs.declared.faults.FillFault.{FillFault}

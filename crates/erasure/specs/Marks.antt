@@ -3,7 +3,7 @@ use Rattle.std.specs.Prelude.{◌≡◌, ℕ, zero, suc, ◌+◌, ◌^◌, Optio
 use Rattle.std.specs.List.{range_with_len}
 use Rattle.element.specs.declared.bits.Bit.{Bit}
 use Rattle.element.specs.declared.bits.Bit.TheVariants.{Zero, One}
-use Rattle.element.specs.declared.affine.Form.{Form}
+use Rattle.element.specs.declared.forms.Form.{Form}
 use Rattle.element.specs.Forms.{form_zero, form_plus}
 use Rattle.qc.specs.Shape.{Shape}
 use Rattle.qc.specs.Codeblock.{completed}

@@ -2,11 +2,10 @@
 use Rattle.std.specs.Prelude.{◌≡◌, ℕ, ◌<◌, ◌≤◌, ◌≢◌, Result, Ok, Err, List, slice_index_or}
 use Rattle.element.specs.declared.bits.Bit.{Bit}
 use Rattle.element.specs.declared.bits.Bit.TheVariants.{Zero, One}
-use Rattle.element.specs.declared.affine.Form.{Form}
 use Rattle.erasure.specs.declared.elimination.Contradiction.{Contradiction}
 use Rattle.erasure.specs.declared.solutions.Solutions.{Solutions}
 use Rattle.erasure.specs.declared.solutions.Solutions.TheVariants.{Single, Several}
-use Rattle.erasure.specs.Unknowns.{member, pivot, Solves}
+use Rattle.erasure.specs.Unknowns.{member}
 
 -- two of them differ at k
 abbrev pub Differ : ((ℕ → Bit) → Type 0) → ℕ → Type 0
@@ -37,9 +36,3 @@ abbrev pub Means : ℕ → ((ℕ → Bit) → Type 0) → Result Solutions Contr
 Means u S (Err e) = (s : ℕ → Bit) → S s → ⊥
 Means u S (Ok (Single bits)) = Only u S bits
 Means u S (Ok (Several set)) = Many u S set
-
--- the first k unknowns of a table, sorted into those in which solutions differ and the others
-pub record Sorted (u : ℕ) (t : List Form) (k : ℕ) (set : ℕ) : Type 0 where
-  pub inside : (j : ℕ) → j < k → member set j ≡ One → Differ (Solves u t) j
-  pub outside : (j : ℕ) → j < k → member set j ≡ Zero → Settled (Solves u t) j (pivot t j).bit
-  pub rest : (j : ℕ) → k ≤ j → member set j ≡ Zero

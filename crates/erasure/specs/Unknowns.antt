@@ -1,18 +1,14 @@
 -- What a form stands for under an assignment of its unknowns, and tables of pivot rows.
-use Rattle.std.specs.Prelude.{◌≡◌, ℕ, zero, suc, ◌/◌, ◌%◌, ◌^◌, ◌<◌, ◌≢◌, List, Some, None, Option, slice_index_or}
+use Rattle.std.specs.Prelude.{◌≡◌, ℕ, zero, suc, ◌/◌, ◌%◌, ◌^◌, ◌<◌, ◌≢◌, List, Some, None, Option, ◌==◌, slice_index_or}
 use Rattle.element.specs.declared.bits.Bit.{Bit}
 use Rattle.element.specs.declared.bits.Bit.TheVariants.{Zero, One}
-use Rattle.element.specs.declared.affine.Form.{Form}
-use Rattle.element.specs.Bits.{bit_plus}
+use Rattle.element.specs.declared.forms.Form.{Form}
+use Rattle.element.specs.Bits.{bit_plus, bit_if}
 use Rattle.element.specs.Forms.{form_zero, form_plus}
-
-abbrev pub odd : ℕ → Bit
-odd zero = Zero
-odd (suc n) = One
 
 -- whether the unknown e is in a set
 abbrev pub member : ℕ → ℕ → Bit
-member set e = odd (set / 2 ^ e % 2)
+member set e = bit_if (set / 2 ^ e % 2 == 1)
 
 -- an unknown below u that is in the set, or none is
 abbrev pub Found : ℕ → ℕ → Option ℕ → Type 0

@@ -6,7 +6,7 @@ ghost use Rattle.erasure.specs.Demands.{Inserted, Demanded};
 
 use element::{Bit, Element, Form};
 
-// No block is filled in more places.
+// No block is filled in more places. Clauses write it as 64.
 pub(crate) const MOST_UNKNOWNS: usize = 64;
 
 // No assignment of the unknowns meets all demands.
@@ -14,10 +14,11 @@ pub(crate) const MOST_UNKNOWNS: usize = 64;
 pub(crate) struct Contradiction;
 
 // What is demanded of the first `count` unknowns: row p is the zero form, or has the unknown p and no other that
-// has a pivot row. An array with a count, since the crate allocates nothing.
+// has a pivot row. An array with a count, since the crate allocates nothing. That the count stays is a clause of each
+// function that takes a `&mut`, which lends both fields.
 #[derive(Drop)]
 pub(crate) struct Pivots {
-    pub(crate) rows: [Form; 64],
+    pub(crate) rows: [Form; MOST_UNKNOWNS],
     pub(crate) count: usize,
     ghost size: { count ≤ 64 },
     ghost reduced: { Reduced count rows },
@@ -40,12 +41,13 @@ pub(crate) fn lowest_unknown(unknowns: u64, u: usize) -> Option<usize>
     (0..u).find(|k| holds(unknowns, *k))
 }
 
-// Adds the form to each row that has the unknown k.
-fn substitute(rows: &mut [Form], k: usize, form: Form)
-    requires { k < 64 }
-    ensures { (p : ℕ) → p < length rows.old → pivot rows.new p ≡ added (member (pivot rows.old p).unknowns k) (pivot rows.old p) form }
+// Adds the form to each of the first `count` rows that has the unknown k.
+fn substitute(rows: &mut [Form], count: usize, k: usize, form: Form)
+    requires unknown { k < 64 }
+    requires room { count ≤ length rows.old }
+    ensures { (p : ℕ) → p < count → pivot rows.new p ≡ added (member (pivot rows.old p).unknowns k) (pivot rows.old p) form }
 {
-    for row in rows.iter_mut() {
+    for row in rows[..count].iter_mut() {
         if holds(row.unknowns, k) {
             *row = row.plus(form);
         }
@@ -60,7 +62,7 @@ impl Pivots {
         ensures free { (s : ℕ → Bit) → Solves count result.rows s }
     {
         Pivots {
-            rows: [Form::zero(); 64],
+            rows: [Form::zero(); MOST_UNKNOWNS],
             count,
         }
     }
@@ -86,7 +88,7 @@ impl Pivots {
         let left = self.reduce(form);
         match lowest_unknown(left.unknowns, self.count) {
             Some(k) => {
-                substitute(&mut self.rows, k, left);
+                substitute(&mut self.rows, self.count, k, left);
                 self.rows[k] = left;
                 Ok(())
             }

@@ -6,7 +6,7 @@ ghost use Rattle.element.specs.declared.bits.Bit.TheVariants.{Zero};
 ghost use Rattle.erasure.specs.Marks.{mark_at, rank, erasures, form_of, laid, filled_of, Marked};
 ghost use Rattle.erasure.specs.Places.{Places};
 
-use crate::elimination::holds;
+use crate::elimination::{MOST_UNKNOWNS, holds};
 use crate::solutions::only_unknown;
 use element::{Bit, Form};
 
@@ -37,6 +37,7 @@ pub(crate) fn write_forms(marks: &[Option<Bit>], forms: &mut [Form])
     requires few { erasures marks.now ≤ 64 }
     ensures { forms.new ≡ laid marks.now forms.old }
 {
+    // Counted by hand, since every mark is written and the erased ones alone are numbered.
     let mut k = 0;
     for (i, mark) in marks.iter().enumerate() {
         forms[i] = form_of(*mark, k);
@@ -47,10 +48,11 @@ pub(crate) fn write_forms(marks: &[Option<Bit>], forms: &mut [Form])
 }
 
 // Writes the bits of the unknowns over the erased marks.
-pub(crate) fn fill_marks(marks: &mut [Option<Bit>], bits: &[Bit; 64])
+pub(crate) fn fill_marks(marks: &mut [Option<Bit>], bits: &[Bit; MOST_UNKNOWNS])
     requires few { erasures marks.old ≤ 64 }
     ensures { (i : ℕ) → i < length marks.old → mark_at marks.new i ≡ filled_of (mark_at marks.old i) (slice_index_or bits.now (rank marks.old i) Zero) }
 {
+    // Counted by hand, since behind `iter_mut().filter(..)` a proof does not know the marks that are written.
     let mut k = 0;
     for mark in marks.iter_mut() {
         if mark.is_none() {
@@ -60,12 +62,15 @@ pub(crate) fn fill_marks(marks: &mut [Option<Bit>], bits: &[Bit; 64])
     }
 }
 
-// Writes the erased places whose unknowns are in the set to the front of the list, and says how many they are.
+// Writes the erased places whose unknowns are in the set to the front of the list, and says how many they are:
+// the refusal carries that number, and the crate allocates no list.
 pub(crate) fn list_places(marks: &[Option<Bit>], open: u64, places: &mut [usize]) -> usize
     requires few { erasures marks.now ≤ 64 }
     requires room { 64 ≤ length places.old }
     ensures { Places (Marked marks.now «open») (length marks.now) result places.old places.new }
 {
+    // Counted by hand: `filter` and a second `enumerate` would give k and still leave n, and a proof would then have to
+    // say where the k-th erased mark lies.
     let mut n = 0;
     let mut k = 0;
     for (i, mark) in marks.iter().enumerate() {

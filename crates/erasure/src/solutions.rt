@@ -1,16 +1,16 @@
 // What pivot rows leave to their unknowns.
-ghost use Rattle.std.specs.Prelude.{◌≡◌, ◌^◌, ◌<◌, ◌≤◌, Ok, MatchBool};
+ghost use Rattle.std.specs.Prelude.{◌≡◌, ◌^◌, ◌<◌, Ok, MatchBool};
 ghost use Rattle.erasure.specs.Unknowns.{pivot, Solves};
 ghost use Rattle.erasure.specs.Solutions.{Differ, Settled, Means};
 
-use crate::elimination::{Pivots, lowest_unknown};
+use crate::elimination::{MOST_UNKNOWNS, Pivots, lowest_unknown};
 use element::Bit;
 
 // One assignment meets the demands, or several do: then the set of the unknowns in which some two of them differ.
-// Neither is an error to pass on, so this is no `Result`.
+// Neither is an error to pass on, so this is no `Result`. The bits are an array: the crate allocates nothing.
 #[derive(Clone, Copy)]
 pub(crate) enum Solutions {
-    Single([Bit; 64]),
+    Single([Bit; MOST_UNKNOWNS]),
     Several(u64),
 }
 
@@ -36,14 +36,16 @@ impl Pivots {
         ensures { Means self.now.count (Solves self.now.count self.now.rows) (Ok result) }
     {
         let mut open = 0;
+        // Unknowns by number, and not row by row: `is_open` speaks of the solutions of all rows.
         for k in 0..self.count {
             if self.is_open(k) {
                 open |= only_unknown(k);
             }
         }
-        match lowest_unknown(open, self.count) {
-            Some(_) => Solutions::Several(open),
-            None => Solutions::Single(self.rows.map(|row| row.bit)),
+        if lowest_unknown(open, self.count).is_some() {
+            Solutions::Several(open)
+        } else {
+            Solutions::Single(self.rows.map(|row| row.bit))
         }
     }
 }

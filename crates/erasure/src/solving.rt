@@ -11,7 +11,8 @@ use ar4ja::Code;
 use element::{Element, Form};
 use qc::{LONGEST_SEGMENT, QuasiCyclic};
 
-// Adds the demand that all rows of the first two block rows are zero; `rows` is room for one segment.
+// Adds the demand that all rows of the first two block rows are zero; `rows` is room for one segment. The clauses `there` and
+// `segment` stand again and again, since they speak of buffers that are lent apart.
 fn insert_rows(
     code: Code,
     run: &[Form],
@@ -23,6 +24,7 @@ fn insert_rows(
     ensures count { pivots.new.count ≡ pivots.old.count }
     ensures demanded { Adds pivots.old.count pivots.old.rows (RowsZero pivots.old.count (shape_of code) run.now (2 * M (shape_of code))) pivots.new.rows (is_ok result) }
 {
+    // Segments by number: their rows are no list yet, and each call writes those of one segment.
     for n in 0..8 {
         // The lengths are right, so the rows are always there.
         let _ = qc::rows_of_segment(code, run, n, rows);
@@ -38,6 +40,7 @@ pub(crate) fn solve(code: Code, run: &[Form], u: usize) -> Result<Solutions, Con
     ensures { Means u (RowsZero u (shape_of code) run.now (2 * M (shape_of code))) result }
 {
     let mut pivots = Pivots::new(u);
+    // An array as long as any segment, since the crate allocates nothing.
     let mut scratch = [Form::zero(); LONGEST_SEGMENT];
     insert_rows(code, run, &mut pivots, &mut scratch[..code.segment()])?;
     Ok(pivots.solutions())

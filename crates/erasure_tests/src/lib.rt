@@ -18,8 +18,8 @@ mod tests {
     fn codeblock(heap: Global, code: Code) -> Result<Vec<Option<Bit>>, AllocError> {
         let mut run = vec![in heap; Bit::Zero; code.whole_len()]?;
         for (i, bit) in run.iter_mut().enumerate().take(1024) {
-            let rest = i % 7;
-            *bit = Bit::from(rest * rest % 7 < 3);
+            let remainder = i % 7;
+            *bit = Bit::from(remainder * remainder % 7 < 3);
         }
         let _ = TableCoder.encode(code, &mut run);
         run.iter()
@@ -116,6 +116,7 @@ mod tests {
         assert_eq!(rt; answer, Err(FillFault::SeveralFit(32)));
         assert_eq!(rt; FillFault::SeveralFit(32).number(), 12);
         assert!(rt; marks == before);
+        // By number: two places are looked for at each.
         for k in 0..16 {
             assert!(rt; places.contains(&(320 + 2 * k)) && places.contains(&(576 + 2 * k)));
         }

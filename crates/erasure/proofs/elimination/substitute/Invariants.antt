@@ -4,5 +4,5 @@ use Rattle.erasure.proofs.elimination.substitute.Given as goal
 
 abbrev pub invariant-loop-row : goal.invariant-loop-row
 invariant-loop-row l =
-    ((p : ℕ) → p < l.row-index → pivot l.rows p ≡ added (member (pivot l.initial.rows p).unknowns l.k) (pivot l.initial.rows p) l.form)
-    × ((p : ℕ) → l.row-index ≤ p → pivot l.rows p ≡ pivot l.initial.rows p)
+    ((p : ℕ) → p < l.row-index → pivot l.row-items p ≡ added (member (pivot l.initial.row-items p).unknowns l.k) (pivot l.initial.row-items p) l.form)
+    × ((p : ℕ) → l.row-index ≤ p → pivot l.row-items p ≡ pivot l.initial.row-items p)

@@ -1,24 +1,14 @@
 use Rattle.std.proofs.Common.{◌<◌, length, arith}
-use Rattle.erasure.proofs.Ranks.{count_lt, count_erased, count_known}
-use Rattle.erasure.proofs.Replacing.{mark_left, fill_erased, fill_known}
+use Rattle.erasure.proofs.Ranks.{count_erased, count_known}
+use Rattle.erasure.proofs.Replacing.{mark_left, fill_few, fill_erased, fill_known}
 use Rattle.erasure.proofs.marks.fill_marks.Goals as goal
 use Rattle.erasure.proofs.marks.fill_marks.Goals.{then-is_none, else-is_none}
 
 pub bounds-bits-k : goal.bounds-bits-k
-bounds-bits-k c =
-    let ms = c.args.marks.now in
-    let i = c.loop-mark.mark-index in
-    let low : i < length c.loop-mark.marks = omega arith in
-    let so = c.loop-mark.invariant in
-    omega (arith, count_lt ms i c.loop-mark.k so.0 _ (mark_left ms c.args.bits.now c.loop-mark.marks i low so.1) (omega arith) c.if-is_none.ensures, c.requires)
+bounds-bits-k c = omega (arith, fill_few c.args.marks.now c.args.bits.now c.loop-mark.marks c.loop-mark.mark-index (omega arith) c.loop-mark.invariant.1 c.loop-mark.invariant.0 c.if-is_none.ensures c.loop-mark.auto.marks c.requires.few)
 
 pub overflow_add-k : goal.overflow_add-k
-overflow_add-k c =
-    let ms = c.args.marks.now in
-    let i = c.loop-mark.mark-index in
-    let low : i < length c.loop-mark.marks = omega arith in
-    let so = c.loop-mark.invariant in
-    omega (arith, count_lt ms i c.loop-mark.k so.0 _ (mark_left ms c.args.bits.now c.loop-mark.marks i low so.1) (omega arith) c.if-is_none.ensures, c.requires)
+overflow_add-k c = omega (arith, fill_few c.args.marks.now c.args.bits.now c.loop-mark.marks c.loop-mark.mark-index (omega arith) c.loop-mark.invariant.1 c.loop-mark.invariant.0 c.if-is_none.ensures c.loop-mark.auto.marks c.requires.few)
 
 pub loop-mark-preserved : goal.loop-mark-preserved
 loop-mark-preserved c =

@@ -10,10 +10,10 @@ use Rattle.erasure.proofs.marks.list_places.Goals as goal
 use Rattle.erasure.proofs.marks.list_places.Goals.{Then-holds, then-is_none, then-holds, else-holds, else-is_none}
 
 pub holds-requires : goal.holds-requires
-holds-requires c = count_few c.args.marks.now c.loop-i.i c.loop-i.k (omega arith) c.loop-i.invariant.0 c.if-is_none.ensures c.requires.few
+holds-requires c = count_few c.args.marks.now c.loop-i.invariant.0 (omega arith) c.if-is_none.ensures c.requires.few
 
 room : (c : Then-holds) → c.loop-i.n < 64
-room c = omega (arith, count_few c.args.marks.now c.loop-i.i c.loop-i.k (omega arith) c.loop-i.invariant.0 c.if-is_none.ensures c.requires.few, c.loop-i.invariant.1)
+room c = omega (arith, count_few c.args.marks.now c.loop-i.invariant.0 (omega arith) c.if-is_none.ensures c.requires.few, c.loop-i.invariant.1)
 
 pub offset_bounds-places-n : goal.offset_bounds-places-n
 offset_bounds-places-n c = omega (arith, room c)
@@ -25,7 +25,7 @@ pub overflow_add-n : goal.overflow_add-n
 overflow_add-n c = omega (arith, room c)
 
 pub overflow_add-k : goal.overflow_add-k
-overflow_add-k c = omega (arith, count_few c.args.marks.now c.loop-i.i c.loop-i.k (omega arith) c.loop-i.invariant.0 c.if-is_none.ensures c.requires.few)
+overflow_add-k c = omega (arith, count_few c.args.marks.now c.loop-i.invariant.0 (omega arith) c.if-is_none.ensures c.requires.few)
 
 pub loop-i-preserved : goal.loop-i-preserved
 loop-i-preserved c =
@@ -41,7 +41,7 @@ loop-i-preserved c =
     elim c.if-is_none.branch [
       | then-is_none w ↦
           let step = count_erased ms i k k_is _ read w.if-is_none.ensures in
-          let fits : n < length c.loop-i.places = omega (arith, count_few ms i k low k_is w.if-is_none.ensures c.requires.few, c.loop-i.invariant.1, c.requires.room, c.loop-i.auto.places) in
+          let fits : n < length c.loop-i.places = omega (arith, count_few ms k_is low w.if-is_none.ensures c.requires.few, c.loop-i.invariant.1, c.requires.room, c.loop-i.auto.places) in
           elim w.if-holds.branch [
             | then-holds w' ↦
                 let in_set = subst (λ (j : ℕ). member c.args.open j ≡ One) k_is (w.holds.ensures.in_set w'.if-holds.true) in

@@ -8,10 +8,10 @@ use Rattle.erasure.proofs.marks.write_forms.Goals as goal
 use Rattle.erasure.proofs.marks.write_forms.Goals.{then-is_none, else-is_none}
 
 pub form_of-requires : goal.form_of-requires
-form_of-requires c = λ e. count_few c.args.marks.now c.loop-i.i c.loop-i.k (omega arith) c.loop-i.invariant.0 (ap is_some e) c.requires.few
+form_of-requires c = λ e. count_few c.args.marks.now c.loop-i.invariant.0 (omega arith) (ap is_some e) c.requires.few
 
 pub overflow_add-k : goal.overflow_add-k
-overflow_add-k c = omega (arith, count_few c.args.marks.now c.loop-i.i c.loop-i.k (omega arith) c.loop-i.invariant.0 c.if-is_none.ensures c.requires.few)
+overflow_add-k c = omega (arith, count_few c.args.marks.now c.loop-i.invariant.0 (omega arith) c.if-is_none.ensures c.requires.few)
 
 pub loop-i-preserved : goal.loop-i-preserved
 loop-i-preserved c =

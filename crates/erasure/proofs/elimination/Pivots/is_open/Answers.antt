@@ -2,7 +2,7 @@ use Rattle.std.proofs.Common.{ℕ, ◌^◌, ◌<◌, Bool, MatchBool, List, Opti
 use Rattle.std.specs.Option.{is_some}
 use lib.Bits.{bit_xor}
 use Rattle.erasure.specs.Unknowns.{Found, Solves, Reduced, pivot}
-use Rattle.element.specs.declared.affine.Form.{Form}
+use Rattle.element.specs.declared.forms.Form.{Form}
 use Rattle.erasure.specs.Solutions.{Differ, Settled}
 use Rattle.erasure.proofs.Repairing.{settled, undecided}
 use Rattle.erasure.proofs.elimination.Pivots.is_open.Goals as goal

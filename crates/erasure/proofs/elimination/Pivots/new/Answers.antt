@@ -1,5 +1,5 @@
 use Rattle.std.proofs.Common.{List, replicate}
-use Rattle.element.specs.declared.affine.Form.{Form}
+use Rattle.element.specs.declared.forms.Form.{Form}
 use Rattle.erasure.proofs.Reading.{all_blank, blank_reduced, blank_solved}
 use Rattle.erasure.proofs.elimination.Pivots.new.Goals as goal
 

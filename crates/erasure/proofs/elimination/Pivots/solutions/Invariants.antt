@@ -1,4 +1,4 @@
-use Rattle.erasure.specs.Solutions.{Sorted}
+use Rattle.erasure.proofs.Reading.{Sorted}
 use Rattle.erasure.proofs.elimination.Pivots.solutions.Given as goal
 
 abbrev pub invariant-loop-k : goal.invariant-loop-k
