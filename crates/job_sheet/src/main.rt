@@ -5,7 +5,7 @@
 use jobsheet::{LIMIT, work};
 use std::io::{Read, Write};
 
-fn run(rt: &HostRuntime) -> anyhow::Result<()> {
+fn main(rt: HostRuntime) -> anyhow::Result<()> {
     let mut text = Vec::new(rt.alloc());
     // One byte more than a sheet may have tells that it is too long: what follows is not read.
     rt.stdin().take(LIMIT as u64 + 1).read_to_end(&mut text)?;
@@ -13,8 +13,4 @@ fn run(rt: &HostRuntime) -> anyhow::Result<()> {
     work(&text, &mut printed)?;
     rt.stdout().write_all(&printed)?;
     Ok(())
-}
-
-fn main(rt: HostRuntime) -> anyhow::Result<()> {
-    run(&rt)
 }

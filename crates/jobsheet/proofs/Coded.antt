@@ -6,7 +6,7 @@ use Rattle.std.proofs.lemmas.List.FromFn.{length-map-range_with_len, get_or-map-
 use Rattle.element.specs.declared.bits.Bit.{Bit}
 use Rattle.element.specs.declared.bits.Bit.TheVariants.{Zero}
 use Rattle.element.specs.Bits.{bit_plus, bit_laws}
-use Rattle.qc.specs.Shape.{Shape, M, whole}
+use Rattle.qc.specs.Shape.{Shape, M, sent, whole}
 use Rattle.qc.specs.Segments.{segments}
 use Rattle.qc.specs.Coding.{encoded}
 use Rattle.qc.proofs.Soundness.{sounds}
@@ -31,18 +31,20 @@ pub record Sizes (c : Shape) : Type 0 where
   pub message : (r s : ℕ) → r < 4 * c.K → s < c.m → r * c.m + s < 1024
   pub whole_digits : 4 * (M c / 2) ≡ 2 * M c
   pub few_digits : M c / 2 ≤ 256
+  pub sent : sent c ≡ 1024 + 2 * M c
+  pub whole : 1024 ≤ whole c
 
 pub sizes : (code : Code) → Sizes (shape_of code)
-sizes Half1024 = record { segment = λ i h. omega arith; within = λ i. omega arith; place = λ i h. omega arith; message = λ r s h k. omega arith; whole_digits = omega arith; few_digits = omega arith }
-sizes TwoThirds1024 = record { segment = λ i h. omega arith; within = λ i. omega arith; place = λ i h. omega arith; message = λ r s h k. omega arith; whole_digits = omega arith; few_digits = omega arith }
-sizes FourFifths1024 = record { segment = λ i h. omega arith; within = λ i. omega arith; place = λ i h. omega arith; message = λ r s h k. omega arith; whole_digits = omega arith; few_digits = omega arith }
+sizes Half1024 = record { segment = λ i h. omega arith; within = λ i. omega arith; place = λ i h. omega arith; message = λ r s h k. omega arith; whole_digits = omega arith; few_digits = omega arith; sent = omega arith; whole = omega arith }
+sizes TwoThirds1024 = record { segment = λ i h. omega arith; within = λ i. omega arith; place = λ i h. omega arith; message = λ r s h k. omega arith; whole_digits = omega arith; few_digits = omega arith; sent = omega arith; whole = omega arith }
+sizes FourFifths1024 = record { segment = λ i h. omega arith; within = λ i. omega arith; place = λ i h. omega arith; message = λ r s h k. omega arith; whole_digits = omega arith; few_digits = omega arith; sent = omega arith; whole = omega arith }
 
-module _ (code : Code) (w : List ℕ) (rest : List Bit) (long : 1536 ≤ length rest) where
+module _ (code : Code) (w : List ℕ) (rest : List Bit) (fits : whole (shape_of code) ≤ 1024 + length rest) where
   abbrev run : List Bit
   run = message_bits w ++ rest
 
   run_fits : whole (shape_of code) ≤ length run
-  run_fits = omega (arith, length-append (message_bits w) rest, length-map-range_with_len (message_bit w) 0 1024, whole_fits code)
+  run_fits = omega (arith, length-append (message_bits w) rest, length-map-range_with_len (message_bit w) 0 1024, fits)
 
   -- the run's message is the message
   message_there : (r s : ℕ) → r < 4 * (shape_of code).K → s < (shape_of code).m → segments Zero (shape_of code).m run r s ≡ segments Zero (shape_of code).m (message_bits w) r s

@@ -4,7 +4,7 @@ use Rattle.std.specs.List.{list_all, range_with_len}
 use Rattle.std.specs.Str.{bytes_eq}
 use Rattle.refusal.specs.Outcome.{Outcome, Outcome.done, Outcome.refused}
 use Rattle.element.specs.declared.bits.Bit.{Bit}
-use Rattle.element.specs.declared.bits.Bit.TheVariants.{Zero, One}
+use Rattle.element.specs.Bits.{bit_if}
 use Rattle.ar4ja.specs.declared.codes.Code.{Code}
 use Rattle.ar4ja.specs.declared.codes.CodeFault.TheVariants.{Unknown}
 use Rattle.ar4ja.specs.Codes.{named}
@@ -49,12 +49,9 @@ coder_value w =
 abbrev pub message_value : List ℕ → Result (List ℕ) ValueFault
 message_value w = cond (all_hex w) (cond (length w == 256) (Ok w) (Err WrongLength)) (Err Unreadable)
 
-abbrev pub one_if : ℕ → Bit
-one_if n = cond (n == 0) Zero One
-
 -- bit i of a message by its digits, four to a digit, the first the most significant
 unfoldable pub message_bit : List ℕ → ℕ → Bit
-message_bit w i = one_if (hex_value (slice_index w (i / 4)) / 2 ^ (3 - i % 4) % 2)
+message_bit w i = bit_if (hex_value (slice_index w (i / 4)) / 2 ^ (3 - i % 4) % 2 == 1)
 
 abbrev pub message_bits : List ℕ → List Bit
 message_bits w = map (message_bit w) (range_with_len 0 1024)

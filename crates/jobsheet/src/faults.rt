@@ -95,7 +95,7 @@ pub enum SheetFault {
 }
 
 impl SheetFault {
-    // The line of the fault; 0 is the whole sheet, which is how it is printed.
+    // The line of the fault; 0 is the whole sheet, and is so printed where it is.
     pub fn line(&self) -> u32
         ensures { result ≡ fault_line self.now }
     {
@@ -106,7 +106,7 @@ impl SheetFault {
         }
     }
 
-    // The column of the fault; 0 is the whole line, which is how it is printed.
+    // The column of the fault; 0 is the whole line or sheet, and is so printed where it is.
     pub fn column(&self) -> u32
         ensures { result ≡ fault_column self.now }
     {

@@ -14,14 +14,14 @@ use ar4ja::Code;
 
 // A message to code.
 #[derive(Clone, Copy)]
-pub struct Job<'a> {
+pub(crate) struct Job<'a> {
     pub code: Code,
     pub coder: CoderName,
     pub message: Message<'a>,
 }
 
 impl<'a> Job<'a> {
-    // A job whose values are yet to come: each of the three columns sets one.
+    // A job whose values are yet to come. Any values serve, since the names of an order differ, and so each is set.
     fn blank() -> Job<'a> {
         Job {
             code: Code::Half1024,

@@ -4,10 +4,10 @@
 #![tactic(auto)]
 
 mod coding;
+mod ends;
 mod faults;
 mod jobs;
 mod line;
-mod lines;
 mod message;
 mod names;
 mod opening;
@@ -21,6 +21,7 @@ mod whole;
 mod working;
 
 pub use faults::{LineFault, SheetFault, ValueFault};
-pub use opening::{LIMIT, Printed, ROOM};
+pub use opening::{LIMIT, ROOM};
+pub use report::Printed;
 pub use sheet::Sheet;
 pub use whole::work;

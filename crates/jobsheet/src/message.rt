@@ -5,9 +5,9 @@ ghost use Rattle.jobsheet.specs.Values.{all_hex};
 // How many digits a message has.
 pub(crate) const DIGITS: usize = 256;
 
-// A message by its digits, which are a part of the sheet.
+// A message by its digits. Those that were read are a part of the sheet.
 #[derive(Clone, Copy)]
-pub struct Message<'a> {
+pub(crate) struct Message<'a> {
     pub(crate) digits: &'a [u8],
     ghost long: { length digits.now ≡ 256 },
     ghost hex: { all_hex digits.now ≡ true },

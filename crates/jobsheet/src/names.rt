@@ -68,7 +68,7 @@ impl Order {
     }
 }
 
-// A coder, by its word.
+// A coder, by its word: a sheet names its coder, so that it is a value and no type.
 #[derive(Clone, Copy, PartialEq, Eq, Debug)]
 pub enum CoderName {
     Table,
@@ -87,7 +87,7 @@ impl CoderName {
         }
     }
 
-    // Its word.
+    // Its word. No `Display`, which prints to a formatter: a printer takes bytes.
     pub(crate) fn word(self) -> &'static [u8]
         ensures { result.now ≡ coder_word self }
     {

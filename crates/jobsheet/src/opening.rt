@@ -1,16 +1,17 @@
 // A sheet opened.
-ghost use Rattle.std.specs.Prelude.{◌≡◌, length, Some};
+ghost use Rattle.std.specs.Prelude.{◌≡◌, length};
 ghost use Rattle.jobsheet.specs.Refusals.{told};
 ghost use Rattle.jobsheet.specs.Printing.{front};
 ghost use Rattle.jobsheet.specs.Printout.{refusal_of};
 ghost use Rattle.jobsheet.specs.Sheets.{standing, closed, open_answer, open_printed, open_standing};
 ghost use Rattle.jobsheet.specs.Steps.{Opened};
 
+use crate::ends::line_at;
 use crate::faults::SheetFault;
-use crate::lines::line_at;
 use crate::names::Order;
 use crate::order::read_names;
 use crate::printing::Printer;
+use crate::report::Printed;
 use crate::sheet::Sheet;
 
 // No output buffer is smaller.
@@ -20,25 +21,6 @@ pub const ROOM: usize = 272;
 pub const LIMIT: usize = 65536;
 
 const HEADING: &[u8] = b"line,code,coder,parity\n";
-
-// How many bytes a call wrote, and the sheet's fault if there is one: no `Result`, since a refusal is printed too.
-#[derive(Clone, Copy)]
-pub struct Printed {
-    pub count: usize,
-    pub fault: Option<SheetFault>,
-}
-
-impl Printed {
-    // A refusal that prints nothing.
-    pub(crate) fn nothing(fault: SheetFault) -> Printed
-        ensures { (result.count ≡ 0) × (result.fault ≡ Some fault) }
-    {
-        Printed {
-            count: 0,
-            fault: Some(fault),
-        }
-    }
-}
 
 // The order of a sheet's names, and where its second line begins.
 fn read_order(text: &[u8]) -> Result<(Order, usize), SheetFault>
@@ -85,20 +67,11 @@ impl<'a> Sheet<'a> {
                     line: 2,
                     order,
                 },
-                Printed {
-                    count: printer.at,
-                    fault: None,
-                },
+                printer.printed(None),
             ),
             Err(fault) => {
                 printer.refusal(fault);
-                (
-                    Sheet::closed(text),
-                    Printed {
-                        count: printer.at,
-                        fault: Some(fault),
-                    },
-                )
+                (Sheet::closed(text), printer.printed(Some(fault)))
             }
         }
     }

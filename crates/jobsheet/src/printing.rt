@@ -5,11 +5,11 @@ ghost use Rattle.element.specs.declared.bits.Bit.TheVariants.{Zero};
 ghost use Rattle.jobsheet.specs.Parity.{hex_digit, nibble, digit_at};
 ghost use Rattle.jobsheet.specs.Printers.{HasRoom, Adds};
 
-use element::Bit;
+use element::{Bit, number_of};
 
-// A buffer, with how many bytes are printed at its front.
+// A buffer, with how many bytes are printed at its front. A place is kept, since a call tells how many bytes it wrote.
 #[derive(Drop)]
-pub struct Printer<'a> {
+pub(crate) struct Printer<'a> {
     out: &'a mut [u8],
     pub(crate) at: usize,
 }
@@ -19,10 +19,7 @@ fn digit_of(four: &[Bit]) -> u8
     requires { length four.now ≡ 4 }
     ensures { result ≡ hex_digit (nibble (get_or four.now 0 Zero) (get_or four.now 1 Zero) (get_or four.now 2 Zero) (get_or four.now 3 Zero)) }
 {
-    let value = 8 * u8::from(four[0])
-        + 4 * u8::from(four[1])
-        + 2 * u8::from(four[2])
-        + u8::from(four[3]);
+    let value = number_of(four) as u8;
     if value < 10 {
         b'0' + value
     } else {
@@ -57,16 +54,13 @@ impl<'a> Printer<'a> {
         self.text(&[b])
     }
 
-    // Prints a number. `write!` promises nothing of when it fails, and `to_string` allocates.
+    // Prints a number. `to_string` would allocate.
     pub(crate) fn decimal(&mut self, n: u32)
         requires { HasRoom self.old (length (decimal n)) }
         ensures { Adds self.old self.new (decimal n) }
     {
-        if n < 10 {
-            return self.byte(b'0' + n as u8);
-        }
-        self.decimal(n / 10);
-        self.byte(b'0' + (n % 10) as u8)
+        let mut digits = itoa::Buffer::new();
+        self.text(digits.format(n).as_bytes())
     }
 
     // Prints bits in hex, four to a digit.

@@ -1,27 +1,27 @@
 // The words of a line. Each one that is read stays a part of the sheet.
 ghost use Rattle.jobsheet.specs.Tokens.{left, Stands, Taken, Three};
 
+use crate::ends::len_before;
 use crate::line::Line;
-use crate::lines::len_before;
 
 // A word that was read, or the end of its line: a part of the sheet, with its place in it.
 #[derive(Clone, Copy)]
-pub enum Token<'a> {
+pub(crate) enum Token<'a> {
     Name(&'a [u8], usize),
     Value(&'a [u8], usize),
     End(&'a [u8], usize),
 }
 
-// Whether a line's words are names or values.
+// Whether a line's words are names or values. A token has a case for each, so that a reader of tokens sees which line it is of.
 #[derive(Clone, Copy, PartialEq, Eq)]
-pub enum Kind {
+pub(crate) enum Kind {
     Names,
     Values,
 }
 
 // The three words of a line, from the left.
 #[derive(Clone, Copy)]
-pub struct Words<'a> {
+pub(crate) struct Words<'a> {
     pub first: &'a [u8],
     pub second: &'a [u8],
     pub third: &'a [u8],
@@ -64,13 +64,10 @@ impl<'a> Line<'a> {
         let first = self.word(kind)?;
         let second = self.word(kind)?;
         let third = self.word(kind)?;
-        match self.token(kind) {
-            Token::End(_, _) => Some(Words {
-                first,
-                second,
-                third,
-            }),
-            _ => None,
-        }
+        matches!(self.token(kind), Token::End(_, _)).then_some(Words {
+            first,
+            second,
+            third,
+        })
     }
 }

@@ -1,5 +1,5 @@
 // The values of a job line, each by its word.
-ghost use Rattle.std.specs.Prelude.{◌≡◌, ◌*◌, ◌<◌};
+ghost use Rattle.std.specs.Prelude.{◌≡◌};
 ghost use Rattle.jobsheet.specs.Values.{is_hex, all_hex, code_value, coder_value, message_value};
 ghost use Rattle.jobsheet.specs.JobSteps.{held};
 
@@ -7,7 +7,6 @@ use crate::faults::ValueFault;
 use crate::message::{DIGITS, Message};
 use crate::names::CoderName;
 use ar4ja::Code;
-use element::Bit;
 
 // A code: one digit, the number of a code.
 pub(crate) fn code_value(word: &[u8]) -> Result<Code, ValueFault>

@@ -1,5 +1,5 @@
 // A whole sheet worked.
-ghost use Rattle.std.specs.Prelude.{◌≡◌, ℕ, ◌+◌, ◌≤◌, true, List, ◌++◌, length, take, is_ok, if◌then◌else◌, vec_len, vec_capacity};
+ghost use Rattle.std.specs.Prelude.{◌≡◌, ℕ, ◌+◌, ◌≤◌, true, List, ◌++◌, length, is_ok, vec_len, vec_capacity};
 ghost use Rattle.jobsheet.specs.Printout.{printed_sheet};
 ghost use Rattle.jobsheet.specs.Law.{LineForLine};
 
@@ -15,6 +15,7 @@ pub fn work(text: &[u8], all: &mut Vec<u8>) -> Result<(), AllocError>
     ensures room { vec_len all.old + length (printed_sheet text.now) ≤ vec_capacity all.old → is_ok result ≡ true }
     ensures lines { LineForLine text.now (printed_sheet text.now) }
 {
+    // One line's room, lent again for each.
     let mut out = [0u8; ROOM];
     let (mut sheet, opened) = Sheet::open(text, &mut out);
     all.extend_from_slice(&out[..opened.count])?;

@@ -7,11 +7,12 @@ ghost use Rattle.jobsheet.specs.Printout.{refusal_of};
 ghost use Rattle.jobsheet.specs.Sheets.{standing, next_answer, next_standing, some_left, job_answer, job_printed, job_standing};
 ghost use Rattle.jobsheet.specs.JobSteps.{all_asked};
 
+use crate::ends::line_at;
 use crate::faults::SheetFault;
 use crate::jobs::{Job, read_job};
-use crate::lines::line_at;
-use crate::opening::{Printed, ROOM};
+use crate::opening::ROOM;
 use crate::printing::Printer;
+use crate::report::Printed;
 use crate::sheet::Sheet;
 
 impl<'a> Sheet<'a> {
@@ -54,17 +55,11 @@ impl<'a> Sheet<'a> {
         match self.next_job() {
             Ok(job) => {
                 printer.job(line, job);
-                Printed {
-                    count: printer.at,
-                    fault: None,
-                }
+                printer.printed(None)
             }
             Err(fault) => {
                 printer.refusal(fault);
-                Printed {
-                    count: printer.at,
-                    fault: Some(fault),
-                }
+                printer.printed(Some(fault))
             }
         }
     }

@@ -29,9 +29,7 @@ mod tests {
         after: &[u8],
     ) -> Result<Vec<u8>, AllocError> {
         let mut all = before.to_vec(heap)?;
-        for _ in 0..count {
-            all.push(byte)?;
-        }
+        all.extend(std::iter::repeat_n(byte, count))?;
         all.extend_from_slice(after)?;
         Ok(all)
     }

@@ -1,17 +1,8 @@
 use Rattle.std.proofs.Common.{ap, ◌∙◌}
 use Rattle.std.proofs.lemmas.Result.{err_from_is_err_and}
 use Rattle.jobsheet.specs.JobSteps.{asked, filled}
-use Rattle.jobsheet.proofs.Asking.{first_fault, second_fault, last}
+use Rattle.jobsheet.proofs.Asking.{second_fault, last}
 use Rattle.jobsheet.proofs.jobs.read_values.Goals as goal
-
-pub returns-in_err-job : goal.returns-in_err-job
-returns-in_err-job c =
-    let w = c.args.words in
-    let a = asked c.blank-blank.result in
-    let p = err_from_is_err_and c.from_residual.result c.from_residual.ensures.1 in
-    rw (p.1, p.2)
-    (first_fault c.args.order w.first.now w.second.now w.third.now a c.in_err-job.field-0.0
-    (c.in_err-job.ensures ∙ ap (λ n. filled 1 a n w.first.now) c.names-first.ensures.0))
 
 pub returns-in_err-job-2 : goal.returns-in_err-job-2
 returns-in_err-job-2 c =

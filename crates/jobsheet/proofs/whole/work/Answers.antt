@@ -2,12 +2,9 @@ use Rattle.std.proofs.Common.{◌≡◌, ℕ, List, [], ◌++◌, length, vec_it
 use Rattle.std.proofs.lemmas.Bool.{false≢true}
 use Rattle.jobsheet.specs.Printout.{printed_sheet}
 use Rattle.jobsheet.specs.Sheets.{standing, job_printed, job_standing}
-use Rattle.jobsheet.proofs.Sheets.{front_take, ahead, begun_with, opening_fits, goes_on, next_fits, less_left, ends, never}
+use Rattle.jobsheet.proofs.Sheets.{front_take, ahead, begun_with, opening_fits, goes_on, next_fits, ends, never}
 use Rattle.jobsheet.proofs.Unbroken.{line_for_line}
 use Rattle.jobsheet.proofs.whole.work.Goals as goal
-
-pub loop-sheet-init : goal.loop-sheet-init
-loop-sheet-init c = record { room = c.open.auto.out; joins = refl; more = omega arith }
 
 pub loop-sheet-preserved : goal.loop-sheet-preserved
 loop-sheet-preserved c =
@@ -24,12 +21,6 @@ loop-sheet-preserved c =
           u.joins;
       more = omega (arith, u.more, c.extend_from_slice-in-loop-sheet.ensures.capacity);
     }
-
-pub loop-sheet-smaller : goal.loop-sheet-smaller
-loop-sheet-smaller c =
-    let s = standing c.loop-sheet.sheet in
-    less_left s (standing c.job_line-worked.new.self) c.loop-sheet-test.ensures
-    (c.job_line-worked.ensures.sheet ∙ ap (λ (n : ℕ). job_standing n s) c.loop-sheet.invariant.room)
 
 pub returns-in_err-extend_from_slice : goal.returns-in_err-extend_from_slice
 returns-in_err-extend_from_slice c =

@@ -1,24 +1,6 @@
-use Rattle.std.proofs.Common.{ℕ, List, ◌++◌, length, codes, decimal, ap, ap₂, arith}
-use Rattle.jobsheet.proofs.Fronts.{adds_more, adds_same, five, one, word_five}
+use Rattle.std.proofs.Common.{ℕ, List, ◌++◌, codes, decimal, ap₂}
+use Rattle.jobsheet.proofs.Fronts.{adds_more, adds_same}
 use Rattle.jobsheet.proofs.printing.Printer.job_start.Goals as goal
-
-pub decimal-requires : goal.decimal-requires
-decimal-requires c = omega (arith, five c.args.line c.requires.line)
-
-pub text-requires : goal.text-requires
-text-requires c = omega (arith, five c.args.line c.requires.line)
-
-pub decimal-requires-2 : goal.decimal-requires-2
-decimal-requires-2 c = omega (arith, five c.args.line c.requires.line, ap (λ (n : ℕ). length (decimal n)) c.from.ensures, one c.args.code)
-
-pub text-requires-2 : goal.text-requires-2
-text-requires-2 c = omega (arith, five c.args.line c.requires.line, ap (λ (n : ℕ). length (decimal n)) c.from.ensures, one c.args.code)
-
-pub text-requires-3 : goal.text-requires-3
-text-requires-3 c = omega (arith, five c.args.line c.requires.line, ap (λ (n : ℕ). length (decimal n)) c.from.ensures, one c.args.code, ap length c.word.ensures, word_five c.args.coder)
-
-pub text-requires-4 : goal.text-requires-4
-text-requires-4 c = omega (arith, five c.args.line c.requires.line, ap (λ (n : ℕ). length (decimal n)) c.from.ensures, one c.args.code, ap length c.word.ensures, word_five c.args.coder)
 
 pub returns : goal.returns
 returns c =

@@ -1,25 +1,7 @@
-use Rattle.std.proofs.Common.{ℕ, ◌++◌, codes, decimal, ap, ◌∙◌, ap₂, arith}
+use Rattle.std.proofs.Common.{ℕ, ◌++◌, codes, decimal, ap, ◌∙◌, ap₂}
 use Rattle.jobsheet.specs.Refusals.{fault_line, fault_column}
-use Rattle.jobsheet.proofs.Fronts.{adds_more, adds_same, ten}
+use Rattle.jobsheet.proofs.Fronts.{adds_more, adds_same}
 use Rattle.jobsheet.proofs.printing.Printer.refusal.Goals as goal
-
-pub decimal-requires : goal.decimal-requires
-decimal-requires c = omega (arith, ten c.line.result c.line.type_inv)
-
-pub text-requires : goal.text-requires
-text-requires c = omega (arith, ten c.line.result c.line.type_inv)
-
-pub decimal-requires-2 : goal.decimal-requires-2
-decimal-requires-2 c = omega (arith, ten c.line.result c.line.type_inv, ten c.column.result c.column.type_inv)
-
-pub text-requires-2 : goal.text-requires-2
-text-requires-2 c = omega (arith, ten c.line.result c.line.type_inv, ten c.column.result c.column.type_inv)
-
-pub decimal-requires-3 : goal.decimal-requires-3
-decimal-requires-3 c = omega (arith, ten c.line.result c.line.type_inv, ten c.column.result c.column.type_inv, ten c.number.result c.number.type_inv)
-
-pub text-requires-3 : goal.text-requires-3
-text-requires-3 c = omega (arith, ten c.line.result c.line.type_inv, ten c.column.result c.column.type_inv, ten c.number.result c.number.type_inv)
 
 pub returns : goal.returns
 returns c =

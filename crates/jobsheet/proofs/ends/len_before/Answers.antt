@@ -4,7 +4,7 @@ use Rattle.std.specs.List.{prefix_len}
 use Rattle.std.proofs.lemmas.Iterator.{YieldsList-from_slice, IsFirst-from_position, index_from_first}
 use Rattle.jobsheet.specs.Splitting.{apart}
 use Rattle.jobsheet.proofs.Splitting.{stops, goes_on}
-use Rattle.jobsheet.proofs.lines.len_before.Goals as goal
+use Rattle.jobsheet.proofs.ends.len_before.Goals as goal
 
 pub returns-clause-count : goal.returns-clause-count
 returns-clause-count c =
