@@ -1,5 +1,5 @@
 // Times one check of a block and one coding of a message by each coder, for each code and element kind, and
-// one fill of a block with 64 erased symbols for each code. Beside the time of a call stand the blocks checked
+// one fill of a block with 64 erased symbols for each code, and a line of a full job sheet. Beside the time of a call stand the blocks checked
 // in a second, and the information bits coded. It times only when given a word, since a run without one is
 // compared with a kept output.
 
@@ -10,6 +10,7 @@ use element::{Bit, Element, Form, Lanes};
 use erasure::fill;
 use qc::{CheckCoder, Coder, QuasiCyclic, TableCoder};
 use std::env;
+use std::fmt::Write;
 use std::time::Instant;
 
 const CALLS: u64 = 200;
@@ -28,7 +29,7 @@ const MESSAGE_BITS: u64 = 1024;
 fn best<F: FnMut() -> bool + Drop>(rt: &HostRuntime, calls: u64, mut call: F) -> anyhow::Result<u64>
     requires { F.IsAlwaysCallable call }
 {
-    let mut best = u64::MAX;
+    let mut shortest = u64::MAX;
     for _ in 0..ROUNDS {
         let start = Instant::now(rt)?;
         let mut done: u64 = 0;
@@ -39,10 +40,10 @@ fn best<F: FnMut() -> bool + Drop>(rt: &HostRuntime, calls: u64, mut call: F) ->
         }
         let spent = u64::try_from(start.elapsed(rt)?.as_nanos()).unwrap_or(u64::MAX);
         if done == calls {
-            best = best.min(spent.checked_div(calls).unwrap_or(u64::MAX));
+            shortest = shortest.min(spent.checked_div(calls).unwrap_or(u64::MAX));
         }
     }
-    Ok(best)
+    Ok(shortest)
 }
 
 fn best_check<E: Element + Clone>(rt: &HostRuntime, code: Code) -> anyhow::Result<u64> {
@@ -95,24 +96,25 @@ fn megabits(blocks: u64, ns: u64) -> u64 {
 const JOBS: u64 = 247;
 
 // A full sheet of jobs at one code and by one coder.
-fn full_sheet(rt: &HostRuntime, job: &[u8]) -> anyhow::Result<Vec<u8>> {
-    let mut text = Vec::new(rt.alloc());
-    text.extend_from_slice(b"code,coder,message\n")?;
+fn full_sheet(rt: &HostRuntime, code: &str, coder: &str) -> anyhow::Result<String> {
+    let mut text = String::new(rt.alloc());
+    text.push_str("code,coder,message\n")?;
     for _ in 0..JOBS {
-        text.extend_from_slice(job)?;
+        write!(text, "{code},{coder},")?;
         for _ in 0..256 {
-            text.push(b'5')?;
+            text.push('5')?;
         }
-        text.push(b'\n')?;
+        text.push('\n')?;
     }
     Ok(text)
 }
 
-fn best_sheet(rt: &HostRuntime, job: &[u8]) -> anyhow::Result<u64> {
-    let text = full_sheet(rt, job)?;
+// The shortest time of a line of a full sheet.
+fn best_sheet(rt: &HostRuntime, code: &str, coder: &str) -> anyhow::Result<u64> {
+    let text = full_sheet(rt, code, coder)?;
     let sheet = best(rt, 1, || {
         let mut printed = Vec::new(rt.alloc());
-        jobsheet::work(&text, &mut printed).is_ok() && printed.len() as u64 > 64 * JOBS
+        jobsheet::work(text.as_bytes(), &mut printed).is_ok() && printed.len() as u64 > 64 * JOBS
     })?;
     Ok(sheet / JOBS)
 }
@@ -149,17 +151,15 @@ fn main(rt: HostRuntime) -> anyhow::Result<()> {
             best_fill(&rt, code)?
         )?;
     }
-    for job in [b"1,table,", b"1,check,", b"3,table,", b"3,check,"] {
-        let line = best_sheet(&rt, job)?;
+    for (code, coder) in [
+        ("1", "table"),
+        ("1", "check"),
+        ("3", "table"),
+        ("3", "check"),
+    ] {
+        let line = best_sheet(&rt, code, coder)?;
         let rate = 1_000_000_000 / line.max(1);
-        let code = (
-            job[0] as char,
-            if job[2] == b't' { "table" } else { "check" },
-        );
-        println!(rt;
-            "code {}, sheet, {} coder: {line} ns a line, {rate} lines/s",
-            code.0, code.1
-        )?;
+        println!(rt; "code {code}, sheet, {coder} coder: {line} ns a line, {rate} lines/s")?;
     }
     Ok(())
 }

@@ -6,17 +6,11 @@
 mod printed;
 
 use ar4ja::Code;
-use element::Bit;
+use element::{Bit, number_of};
 use printed::{R_4, R_6, R_8};
 use qc::{CheckCoder, Coder, QuasiCyclic, TableCoder};
 use std::alloc::{AllocError, Global};
 use std::fmt::Write;
-
-// A row of bits as a number, the first the most significant.
-fn number_of(bits: &[Bit]) -> u32 {
-    bits.iter()
-        .fold(0, |word, bit| (word << 1) | u32::from(*bit == Bit::One))
-}
 
 // The parity of the message with only bit `set` set, as hex digits.
 fn parity_of<K: Coder>(

@@ -1,6 +1,6 @@
 // Messages and blocks of bits, by bytes.
 use ar4ja::Code;
-use element::Bit;
+use element::{Bit, number_of};
 use outlet::byte_bit;
 use qc::{Coder, QuasiCyclic};
 use std::alloc::{AllocError, Global};
@@ -45,11 +45,7 @@ pub(crate) fn write_bytes(block: &mut [Bit], from: usize, bytes: &[u8]) {
 
 // The word that 32 bits of the block make, from a place on.
 pub(crate) fn word_at(block: &[Bit], from: usize) -> u32 {
-    block
-        .iter()
-        .skip(from)
-        .take(32)
-        .fold(0, |word, bit| (word << 1) | u32::from(*bit == Bit::One))
+    number_of(&block[from.min(block.len())..])
 }
 
 // The codeblock of rate 4/5 whose parity the standard prints.

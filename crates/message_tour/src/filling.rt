@@ -13,10 +13,9 @@ fn marks_of(heap: Global, block: &[Bit], count: usize) -> Result<Vec<Option<Bit>
 
 // Erases so many symbols from a place on, each some places after the one before.
 fn erase(marks: &mut [Option<Bit>], from: usize, step: usize, count: usize) {
-    for k in 0..count {
-        if let Some(mark) = marks.get_mut(from.saturating_add(k.saturating_mul(step))) {
-            *mark = None;
-        }
+    let places = marks.iter_mut().skip(from).step_by(step.max(1));
+    for mark in places.take(count) {
+        *mark = None;
     }
 }
 

@@ -38,12 +38,10 @@ pub(crate) fn tell_reading<O: Outlet>(
     let mut message = [0u8; 128];
     let mut run = empty_block(rt.alloc(), code)?;
     match read(outlet, place, code, tolerance, &mut message[..], &mut run) {
-        Ok((orientation, distance)) => {
-            println!(rt;
-                "  read {orientation}, the marker {distance} bits off; the message begins {:02X}{:02X}.",
-                message[0], message[1]
-            )?
-        }
+        Ok((orientation, distance)) => println!(rt;
+            "  read {orientation}, the marker {distance} bits off; the message begins {:02X}{:02X}.",
+            message[0], message[1]
+        )?,
         Err(ReadFault::Fails(row)) => println!(rt;
             "  refused: row {row} is the lowest that is not zero."
         )?,

@@ -1,4 +1,6 @@
-// One real task from beginning to end, told in plain sentences.
+// One real task from beginning to end, told in plain sentences. Some steps are told by the walkthrough too, in code of
+// its own: shared steps would be public functions, and no contract can state what they print; the helpers that print
+// nothing would be public for programs alone.
 
 #![tactic(auto)]
 

@@ -17,6 +17,7 @@ fn begun_outlet(heap: Global, code: Code) -> Result<Packed, AllocError> {
     let bytes = vec![in heap; 0u8; 2 + FRAMES as usize * (code.frame_len() / 8)]?;
     let mut outlet = Packed::empty(bytes);
     for byte in [0xebu8, 0x90] {
+        // By place: each bit is asked of the byte.
         for place in 0..8 {
             let _ = outlet.take(byte_bit(byte, place));
         }
@@ -31,6 +32,7 @@ fn fill_line<C: Coder, O: Outlet>(
     line: &mut Line<C, O>,
 ) -> anyhow::Result<()> {
     let mut run = empty_block(rt.alloc(), code)?;
+    // By number: the number is the message, and is printed.
     for k in 0..=FRAMES {
         match line.send(&message(k)[..], &mut run) {
             Ok(()) => println!(rt; "  message {k} is sent;")?,
@@ -50,12 +52,12 @@ fn read_all_back<C: Coder, O: Outlet>(
 ) -> anyhow::Result<()> {
     let mut run = empty_block(rt.alloc(), code)?;
     let mut same: u8 = 0;
+    // By number, by which a frame is asked for.
     for k in 0..FRAMES {
         let mut got = [0u8; 128];
-        if let Ok(()) = line.read_back(k as usize, &mut got[..], &mut run) {
-            if got[..] == message(k)[..] {
-                same = same.saturating_add(1);
-            }
+        let read = line.read_back(k as usize, &mut got[..], &mut run);
+        if read.is_ok() && got[..] == message(k)[..] {
+            same = same.saturating_add(1);
         }
     }
     println!(rt; "  Read back, {same} of {FRAMES} are the message sent.")?;

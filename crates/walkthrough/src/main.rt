@@ -1,12 +1,14 @@
-// One real task from beginning to end, told in plain sentences.
+// The library's calls shown each by itself, told in plain sentences. Some steps are told by the message tour too, in
+// code of its own: shared steps would be public functions, and no contract can state what they print; the helpers that print
+// nothing would be public for programs alone.
 
 #![tactic(auto)]
 
 use ar4ja::Code;
-use element::{Bit, Element, Form};
+use element::{Bit, Element, Form, number_of};
 use erasure::fill;
 use frame::{ReadFault, marker_bit, read};
-use outlet::{Inverter, Outlet, Packed, Randomizer};
+use outlet::{Inverter, MARKER_LEN, Outlet, Packed, Randomizer};
 use qc::{CheckCoder, Coder, QuasiCyclic, TableCoder};
 use refusal::Refusal;
 use std::alloc::{AllocError, Global};
@@ -32,6 +34,7 @@ fn set_bit(block: &mut [Bit], place: usize) {
 fn write_words(block: &mut [Bit], from: usize, words: &[u32]) {
     let bits = words.iter().flat_map(|word| {
         let word = *word;
+        // A call for a bit of any word would be no shorter.
         (0..32u32).map(move |place| Bit::from((word >> (31 - place)) % 2 == 1))
     });
     for (bit, written) in block.iter_mut().skip(from).zip(bits) {
@@ -41,11 +44,7 @@ fn write_words(block: &mut [Bit], from: usize, words: &[u32]) {
 
 // The word that 32 bits of the block make, from a place on.
 fn word_at(block: &[Bit], from: usize) -> u32 {
-    block
-        .iter()
-        .skip(from)
-        .take(32)
-        .fold(0, |word, bit| (word << 1) | u32::from(*bit == Bit::One))
+    number_of(&block[from.min(block.len())..])
 }
 
 fn tell(rt: &impl Print, code: Code, block: &mut [Bit]) -> anyhow::Result<()> {
@@ -143,7 +142,8 @@ fn show_pile(rt: &HostRuntime) -> anyhow::Result<()> {
 fn framed(heap: Global, code: Code, block: &[Bit]) -> Result<Packed, AllocError> {
     let bytes = vec![in heap; 0u8; code.frame_len() / 8]?;
     let mut layer = Randomizer::over(Packed::empty(bytes), code);
-    for i in 0..64 {
+    // The line's own steps are private, and the marker's bits lie in no slice.
+    for i in 0..MARKER_LEN {
         let _ = layer.take(marker_bit(i));
     }
     for b in block.iter().take(code.block_len()) {
@@ -157,12 +157,10 @@ fn tell_reading<O: Outlet>(rt: &HostRuntime, outlet: &O, code: Code) -> anyhow::
     let mut message = [0u8; 128];
     let mut run = empty_block(rt.alloc(), code)?;
     match read(outlet, 0, code, 0, &mut message[..], &mut run) {
-        Ok((orientation, distance)) => {
-            println!(rt;
-                "  read {orientation}, the marker {distance} bits off; byte 124 of the message is {:02X}.",
-                message[124]
-            )?
-        }
+        Ok((orientation, distance)) => println!(rt;
+            "  read {orientation}, the marker {distance} bits off; byte 124 of the message is {:02X}.",
+            message[124]
+        )?,
         Err(ReadFault::Fails(row)) => println!(rt;
             "  refused: row {row} is the lowest that is not zero."
         )?,
