@@ -1,8 +1,8 @@
-use Rattle.std.proofs.Common.{◌≡◌, ℕ, ◌+◌, ◌*◌, ◌<◌, List, length, get_or, take, sym, ap, ◌∙◌, ap₂, add-one, arith}
-use Rattle.std.proofs.lemmas.List.{get_or-take, length-take, take_min}
+use Rattle.std.proofs.Common.{◌≡◌, ℕ, ◌<◌, List, length, get_or, take, ap, ◌∙◌, arith}
+use Rattle.std.proofs.lemmas.List.{length-take, take_min}
 use Rattle.element.specs.declared.bits.Bit.{Bit}
 use Rattle.element.specs.declared.bits.Bit.TheVariants.{Zero}
-use Rattle.element.specs.Bits.{weight, number_of}
+use Rattle.element.specs.Bits.{number_of}
 use Rattle.element.proofs.Sizes.{number_fits}
 use Rattle.element.proofs.numbers.number_of.Goals as goal
 
@@ -15,12 +15,6 @@ pub overflow_add-number : goal.overflow_add-number
 overflow_add-number c =
     let i : c.loop-bit.bit-index < 32 = omega (arith, c.loop-bit-test.true, length-take c.min.result c.args.bits.now, c.min.ensures) in
     omega (arith, c.loop-bit.invariant, number_fits (λ j. get_or c.args.bits.now j Zero) c.loop-bit.bit-index i, c.from.ensures.1)
-
-pub loop-bit-preserved : goal.loop-bit-preserved
-loop-bit-preserved c =
-    let i : c.loop-bit.bit-index < c.min.result = omega (arith, c.loop-bit-test.true, length-take c.min.result c.args.bits.now) in
-    ap₂ (λ (n w : ℕ). 2 * n + w) c.loop-bit.invariant (c.from.ensures.0 ∙ ap weight (get_or-take c.min.result c.args.bits.now c.loop-bit.bit-index Zero i))
-    ∙ sym (ap (number_of (λ j. get_or c.args.bits.now j Zero)) (add-one c.loop-bit.bit-index))
 
 pub returns : goal.returns
 returns c =
