@@ -1,5 +1,4 @@
 // Bits.
-ghost use Rattle.std.proofs.Common.{rules};
 ghost use Rattle.std.specs.Prelude.{◌≡◌, ◌<◌};
 ghost use Rattle.element.specs.Bits.{bit_zero, bit_plus, bit_same, bit_laws, bit_if, weight};
 
@@ -22,8 +21,6 @@ impl Element for Bit {
 
     ghost laws = { bit_laws };
 
-    ghost test = { Prim.search rules };
-
     fn zero() -> Bit {
         Bit::Zero
     }
@@ -35,6 +32,10 @@ impl Element for Bit {
             (Bit::One, Bit::Zero) => Bit::One,
             (Bit::One, Bit::One) => Bit::Zero,
         }
+    }
+
+    fn same(self, other: Bit) -> bool {
+        self == other
     }
 }
 

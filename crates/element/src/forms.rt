@@ -1,5 +1,4 @@
 // Affine forms.
-ghost use Rattle.std.proofs.Common.{rules};
 ghost use Rattle.element.specs.Forms.{form_zero, form_plus, form_same, form_laws};
 
 use crate::Element;
@@ -22,8 +21,6 @@ impl Element for Form {
 
     ghost laws = { form_laws };
 
-    ghost test = { Prim.search rules };
-
     fn zero() -> Form {
         Form {
             bit: Bit::Zero,
@@ -36,5 +33,9 @@ impl Element for Form {
             bit: self.bit.plus(other.bit),
             unknowns: self.unknowns ^ other.unknowns,
         }
+    }
+
+    fn same(self, other: Form) -> bool {
+        self == other
     }
 }

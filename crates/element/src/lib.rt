@@ -16,8 +16,8 @@ pub use forms::Form;
 pub use numbers::number_of;
 pub use side_by_side::Lanes;
 
-// An element kind: a zero, a sum in which every element is its own inverse, and `==` as the test of equality.
-pub trait Element: Copy + PartialEq {
+// An element kind: a zero, a sum in which every element is its own inverse, and a test of equality.
+pub trait Element: Copy {
     ghost zero: { Self };
 
     ghost plus: { Self → Self → Self };
@@ -32,6 +32,6 @@ pub trait Element: Copy + PartialEq {
     fn plus(self, other: Self) -> Self
         ensures { result ≡ plus self other };
 
-    // What `==` says.
-    ghost test: { (x y : Self) → Self.PartialEq.eq x y ≡ same x y };
+    fn same(self, other: Self) -> bool
+        ensures { result ≡ same self other };
 }

@@ -1,5 +1,4 @@
 // Blocks side by side.
-ghost use Rattle.std.specs.Prelude.{refl};
 ghost use Rattle.element.specs.Lanes.{lanes_zero, lanes_plus, lanes_same, lanes_laws};
 
 use crate::Element;
@@ -19,8 +18,6 @@ impl Element for Lanes {
 
     ghost laws = { lanes_laws };
 
-    ghost test = { λ x y. refl };
-
     fn zero() -> Lanes {
         Lanes { bits: 0 }
     }
@@ -29,5 +26,9 @@ impl Element for Lanes {
         Lanes {
             bits: self.bits ^ other.bits,
         }
+    }
+
+    fn same(self, other: Lanes) -> bool {
+        self == other
     }
 }

@@ -57,7 +57,7 @@ fn all_zero<E: Element>(sums: &[E]) -> bool
     ensures { result ≡ list_all (λ x. E.same x E.zero) sums.now }
 {
     let zero = E::zero();
-    sums.iter().fold(true, |clean, sum| clean & (*sum == zero))
+    sums.iter().fold(true, |clean, sum| clean & sum.same(zero))
 }
 
 // The lowest place that is not zero.
@@ -68,7 +68,7 @@ fn lowest_nonzero<E: Element>(sums: &[E]) -> Option<usize>
         return None;
     }
     let zero = E::zero();
-    sums.iter().position(|sum| *sum != zero)
+    sums.iter().position(|sum| !sum.same(zero))
 }
 
 // Writes `sums` over the places of `run` from `from` on.

@@ -15,5 +15,5 @@ pub returns : goal.returns
 returns g c =
     let e = g.E.Element in
     fold_from_yields_List _ (λ clean x. clean && e.same x e.zero) true c.fold.result c.fold.ensures.ran (YieldsList-from_slice c.args.sums.now cc)
-    (λ a x b q k. let law = g.met.E.Element.test x.now c.zero-zero.result in let is = c.zero-zero.ensures in search rules)
+    (λ a x b q k. let is = c.zero-zero.ensures in search rules)
     ∙ fold_all (λ x. e.same x e.zero) true c.args.sums.now

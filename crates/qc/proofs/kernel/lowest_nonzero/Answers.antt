@@ -16,5 +16,5 @@ returns g c =
     let e = g.E.Element in
     lowest_first (λ x. e.same x e.zero) e.zero c.args.sums.now _
     (IsFirst-from_position _ _ c.position.result (λ x. e.same x e.zero ≡ false) (λ x. e.same x e.zero ≡ true) c.position.ensures.ran (YieldsList-from_slice c.args.sums.now cc)
-    (λ x q k. let law = g.met.E.Element.test x.now c.zero-zero.result in let is = c.zero-zero.ensures in search rules)
-    (λ x q k. let law = g.met.E.Element.test x.now c.zero-zero.result in let is = c.zero-zero.ensures in search rules))
+    (λ x q k. let is = c.zero-zero.ensures in search rules)
+    (λ x q k. let is = c.zero-zero.ensures in search rules))
