@@ -54,13 +54,16 @@ impl<'a> Printer<'a> {
         self.text(&[b])
     }
 
-    // Prints a number. `to_string` would allocate.
+    // Prints a number in decimal. `to_string` would allocate.
     pub(crate) fn decimal(&mut self, n: u32)
         requires { HasRoom self.old (length (decimal n)) }
         ensures { Adds self.old self.new (decimal n) }
     {
-        let mut digits = itoa::Buffer::new();
-        self.text(digits.format(n).as_bytes())
+        if n < 10 {
+            return self.byte(b'0' + n as u8);
+        }
+        self.decimal(n / 10);
+        self.byte(b'0' + (n % 10) as u8)
     }
 
     // Prints bits in hex, four to a digit.
