@@ -9,6 +9,7 @@ use ar4ja::Code;
 use element::{Bit, Element, Form, Lanes};
 use erasure::fill;
 use qc::{CheckCoder, Coder, QuasiCyclic, TableCoder};
+use std::alloc::AllocError;
 use std::env;
 use std::fmt::Write;
 use std::time::Instant;
@@ -24,9 +25,13 @@ const ROUNDS: u64 = 400;
 
 const MESSAGE_BITS: u64 = 1024;
 
-// The shortest time of a call, in nanoseconds, over some rounds of so many calls. A round in which a call fails
-// does not count.
-fn best<F: FnMut() -> bool + Drop>(rt: &HostRuntime, calls: u64, mut call: F) -> anyhow::Result<u64>
+// The shortest time of a call, in nanoseconds, over some rounds of so many calls. A round in which a call says no
+// does not count; want of memory ends it.
+fn best<F: FnMut() -> Result<bool, AllocError> + Drop>(
+    rt: &HostRuntime,
+    calls: u64,
+    mut call: F,
+) -> anyhow::Result<u64>
     requires { F.IsAlwaysCallable call }
 {
     let mut shortest = u64::MAX;
@@ -34,7 +39,7 @@ fn best<F: FnMut() -> bool + Drop>(rt: &HostRuntime, calls: u64, mut call: F) ->
         let start = Instant::now(rt)?;
         let mut done: u64 = 0;
         for _ in 0..calls {
-            if call() {
+            if call()? {
                 done = done.saturating_add(1);
             }
         }
@@ -51,7 +56,7 @@ fn best_check<E: Element + Clone>(rt: &HostRuntime, code: Code) -> anyhow::Resul
     best(
         rt,
         CALLS,
-        || matches!(qc::check(code, &mut block), Ok(None)),
+        || Ok(matches!(qc::check(code, &mut block), Ok(None))),
     )
 }
 
@@ -61,7 +66,7 @@ fn best_coding<K: Coder, E: Element + Clone>(
     code: Code,
 ) -> anyhow::Result<u64> {
     let mut block = vec![in rt.alloc(); E::zero(); code.whole_len()]?;
-    best(rt, CODINGS, || coder.encode(code, &mut block).is_ok())
+    best(rt, CODINGS, || Ok(coder.encode(code, &mut block).is_ok()))
 }
 
 fn best_fill(rt: &HostRuntime, code: Code) -> anyhow::Result<u64> {
@@ -72,7 +77,7 @@ fn best_fill(rt: &HostRuntime, code: Code) -> anyhow::Result<u64> {
         for mark in marks.iter_mut().take(64) {
             *mark = None;
         }
-        fill(code, &mut marks, &mut forms, &mut places).is_ok()
+        Ok(fill(code, &mut marks, &mut forms, &mut places).is_ok())
     })
 }
 
@@ -114,7 +119,8 @@ fn best_sheet(rt: &HostRuntime, code: &str, coder: &str) -> anyhow::Result<u64> 
     let text = full_sheet(rt, code, coder)?;
     let sheet = best(rt, 1, || {
         let mut printed = Vec::new(rt.alloc());
-        jobsheet::work(text.as_bytes(), &mut printed).is_ok() && printed.len() as u64 > 64 * JOBS
+        jobsheet::work(text.as_bytes(), &mut printed)?;
+        Ok(printed.len() as u64 > 64 * JOBS)
     })?;
     Ok(sheet / JOBS)
 }
