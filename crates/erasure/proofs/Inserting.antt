@@ -12,12 +12,12 @@ use Rattle.qc.proofs.Sums.{right}
 use Rattle.erasure.proofs.Values.{dot_none}
 use Rattle.erasure.proofs.Pivoting.{Pivoted, solves_old, solves_form, solves_new, still_reduced}
 
-pivoted : (u : ℕ) (t : List Form) (g : Form) (k : ℕ) (v : List Form) → k < length v
+pub pivoted : (u : ℕ) (t : List Form) (g : Form) (k : ℕ) (v : List Form) → k < length v
     → ((p : ℕ) → p < u → pivot v p ≡ added (member (pivot t p).unknowns k) (pivot t p) g) → Pivoted u t g k (set v k g)
 pivoted u t g k v hk h =
     record { here = get_or-set_same v k g form_zero hk; there = λ p hp ne. get_or-set_other v k p g form_zero ne ∙ h p hp }
 
-inserted : (u : ℕ) (t : List Form) → Reduced u t → (f g : Form) → Cleared u u t f g → (k : ℕ) → k < u → member g.unknowns k ≡ One
+pub inserted : (u : ℕ) (t : List Form) → Reduced u t → (f g : Form) → Cleared u u t f g → (k : ℕ) → k < u → member g.unknowns k ≡ One
     → (v : List Form) → Pivoted u t g k v → Inserted u t f v true
 inserted u t red f g so k hk o v pv =
     record {

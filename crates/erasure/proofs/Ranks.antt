@@ -9,17 +9,21 @@ use Rattle.element.specs.declared.bits.Bit.TheVariants.{Zero}
 use Rattle.erasure.specs.Places.{Places}
 use Rattle.erasure.specs.Marks.{Mark, mark_at, gap, rank, erasures}
 
-rank_step : (ms : List Mark) (i : ℕ) → rank ms (i + 1) ≡ rank ms i + gap (mark_at ms i)
+pub rank_step : (ms : List Mark) (i : ℕ) → rank ms (i + 1) ≡ rank ms i + gap (mark_at ms i)
 rank_step ms i = ap (rank ms) (add-one i)
 
-rank_erased : (ms : List Mark) (i : ℕ) → mark_at ms i ≡ None → rank ms (i + 1) ≡ rank ms i + 1
+pub gap_le : (k : Mark) → gap k ≤ 1
+gap_le None = omega arith
+gap_le (Some x) = omega arith
+
+pub rank_erased : (ms : List Mark) (i : ℕ) → mark_at ms i ≡ None → rank ms (i + 1) ≡ rank ms i + 1
 rank_erased ms i e = ap (rank ms) (add-one i) ∙ ap (λ k. rank ms i + gap k) e
 
-rank_more : (ms : List Mark) (i d : ℕ) → rank ms i ≤ rank ms (i + d)
+pub rank_more : (ms : List Mark) (i d : ℕ) → rank ms i ≤ rank ms (i + d)
 rank_more ms i zero = let e : i + 0 ≡ i = omega arith in let f = ap (rank ms) e in omega arith
 rank_more ms i (suc d) = let e : i + suc d ≡ suc (i + d) = omega arith in let f = ap (rank ms) e in let g = rank_more ms i d in omega arith
 
-rank_le : (ms : List Mark) (i n : ℕ) → i ≤ n → rank ms i ≤ rank ms n
+pub rank_le : (ms : List Mark) (i n : ℕ) → i ≤ n → rank ms i ≤ rank ms n
 rank_le ms i n h = let d : i + (n - i) ≡ n = omega arith in omega (arith, rank_more ms i (n - i), ap (rank ms) d)
 
 -- the unknown of an erased place is below their number

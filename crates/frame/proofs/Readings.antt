@@ -120,6 +120,13 @@ abbrev pub Accepts : List Bit → ℕ → Code → ℕ → Result (Orientation �
 Accepts held place code tolerance r = (way : Orientation) (d : ℕ) → r ≡ Ok (way, d) ↔ MarkedCodeblock held place code tolerance way d
 
 module _ (held : List Bit) (place : ℕ) (code : Code) (tolerance : ℕ) (small : tolerance ≤ 15) where
+  -- with no marker found nothing is accepted
+  pub unmarked : None ≡ found held place tolerance → (fault : ReadFault) → Accepts held place code tolerance (Err fault)
+  unmarked none fault = λ way d. (
+    (λ e. absurd (err_ok fault (way, d) e)),
+    (λ p. absurd (none_some (way, d) (none ∙ sym (marked_found held place tolerance small way d p.0)))),
+  )
+
   module _ (way₀ : Orientation) (d₀ : ℕ) (seen : Some (way₀, d₀) ≡ found held place tolerance) where
     same_mark : (way : Orientation) (d : ℕ) → Marked held place tolerance way d → ◌≡◌ {A = Orientation × ℕ} (way₀, d₀) (way, d)
     same_mark way d there = some_same _ _ (seen ∙ sym (marked_found held place tolerance small way d there))

@@ -29,16 +29,16 @@ module _ (room : ℕ) (text : List ℕ) (big : 272 ≤ room) (r : Result Order S
 
 -- a line, where there is room
 module _ (room : ℕ) (s : Standing) (big : 272 ≤ room) where
-  job_answer_is : next_answer s.order s.number s.left ≡ job_answer room s
+  pub job_answer_is : next_answer s.order s.number s.left ≡ job_answer room s
   job_answer_is = sym (cond-false _ _ _ (le-ltb room 272 big))
 
-  job_printed_is : next_printed s.order s.number s.left ≡ job_printed room s
+  pub job_printed_is : next_printed s.order s.number s.left ≡ job_printed room s
   job_printed_is = sym (cond-false _ _ _ (le-ltb room 272 big))
 
-  job_standing_is : next_standing s.order s.number s.left ≡ job_standing room s
+  pub job_standing_is : next_standing s.order s.number s.left ≡ job_standing room s
   job_standing_is = sym (cond-false _ _ _ (le-ltb room 272 big))
 
-next_prints : (o : Order) (n : ℕ) (ls : List (List ℕ)) → true ≡ some_left ls → ended (answer_text n (next_answer o n ls)) ≡ next_printed o n ls
+pub next_prints : (o : Order) (n : ℕ) (ls : List (List ℕ)) → true ≡ some_left ls → ended (answer_text n (next_answer o n ls)) ≡ next_printed o n ls
 next_prints o n [] e = let z : ◌≡◌ {A = ℕ} 0 1 = cc in absurd (omega arith)
 next_prints o n (l ∷ ls) e = refl
 

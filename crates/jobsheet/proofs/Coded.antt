@@ -84,3 +84,7 @@ hex_there code w ys there k n e long =
     (λ i h. let low : i < 2 * M (shape_of code) = omega (arith, (sizes code).whole_digits) in
     get_or-take k (drop 1024 ys) i Zero (omega arith) ∙ get_or-drop 1024 ys i Zero ∙ there i low)
     ∙ ap (λ k. map (digit_at (parity_bit code (message_bits w))) (range_with_len 0 k)) long
+
+pub length_parity : (code : Code) (w : List ℕ) → length (parity_hex code w) ≡ digits code
+unfolding parity_hex
+length_parity code w = length-map-range_with_len (digit_at (parity_bit code (message_bits w))) 0 (digits code)

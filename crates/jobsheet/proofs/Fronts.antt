@@ -13,7 +13,7 @@ use Rattle.jobsheet.specs.declared.printing.Printer.{Printer}
 use Rattle.jobsheet.specs.Printers.{printed, Adds}
 
 -- one text after another
-printed_more : (old : List ℕ) (at : ℕ) (a b : List ℕ) (next : ℕ) → next ≡ at + length a → at + length a + length b ≤ length old → printed (printed old at a) next b ≡ printed old at (a ++ b)
+pub printed_more : (old : List ℕ) (at : ℕ) (a b : List ℕ) (next : ℕ) → next ≡ at + length a → at + length a + length b ≤ length old → printed (printed old at a) next b ≡ printed old at (a ++ b)
 printed_more old at a b next e h = same_lists _ _ (search (rules, places)) (λ k d l. grind (arith, places))
 
 -- one text after another, as a printer prints them
@@ -33,7 +33,7 @@ pub adds_same : {p q : Printer} {a b : List ℕ} → Adds p q a → a ≡ b → 
 adds_same {p} {q} f e = subst (Adds p q) e f
 
 -- what a printer printed at the front of a buffer
-printed_front : (old text : List ℕ) → printed old 0 text ≡ front text old
+pub printed_front : (old text : List ℕ) → printed old 0 text ≡ front text old
 printed_front old text = ap (λ n. text ++ drop n old) (zero-add (length text))
 
 pub adds_front : {p q : Printer} {a : List ℕ} (old : List ℕ) → Adds p q a → p.out.now ≡ old → p.at ≡ 0 → q.out.now ≡ front a old

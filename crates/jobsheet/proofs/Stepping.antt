@@ -75,7 +75,7 @@ module _ (text : List ℕ) (line : Line) (next : ℕ) (l : LineAt text 0 line ne
   unfolding order_of
   none_named h = let e : text ≡ [] = nil_from_length text (omega arith) in ap (λ t. order_of (take line.end t)) e ∙ ap order_of (take_all line.end [] (omega arith))
 
-  by_first : sheet_order (lines text) ≡ order_of (take line.end text)
+  pub by_first : sheet_order (lines text) ≡ order_of (take line.end text)
   by_first = elim (cases_lt 0 (length text)) [
     | inl h ↦ ap sheet_order (l.there h) ∙ ap (λ k. order_of (take k text)) (sub-zero line.end)
     | inr h ↦ ap sheet_order (none_left text 0 h) ∙ sym (none_named h)

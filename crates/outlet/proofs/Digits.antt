@@ -44,13 +44,13 @@ digits_right w n q j hw hn hq hj =
     (from_all (λ a. all_below (λ b. all_below (λ c. all_below (λ d. right a b c d) 8) 8) 256) 2 w tt hw) hn) hq) hj)
 
 -- the bits before the one written stay
-bit_before : (n q j : ℕ) (b : Bit) → n < 256 → q < 8 → j < q → bit_of (byte_with n q (weight b)) j ≡ bit_of n j
+pub bit_before : (n q j : ℕ) (b : Bit) → n < 256 → q < 8 → j < q → bit_of (byte_with n q (weight b)) j ≡ bit_of n j
 bit_before n q j b hn hq hj =
     let t : ltb j q ≡ true = grind (arith, nat_tests) in
     ap (λ d. cond (eqb d 0) Zero One) (digits_right (weight b) n q j (weight_small b) hn hq (omega arith) ∙ ap (λ (z : Bool). cond z (n / 2 ^ (7 - j) % 2) (cond (eqb j q) (weight b) 0)) t)
 
 -- the bit written is there
-bit_there : (n q : ℕ) (b : Bit) → n < 256 → q < 8 → bit_of (byte_with n q (weight b)) q ≡ b
+pub bit_there : (n q : ℕ) (b : Bit) → n < 256 → q < 8 → bit_of (byte_with n q (weight b)) q ≡ b
 bit_there n q b hn hq =
     let t : ltb q q ≡ false = grind (arith, nat_tests) in
     let u : eqb q q ≡ true = grind (arith, nat_tests) in
@@ -64,7 +64,7 @@ front n q = pack (λ j. cond (ltb j q) (bit_of n j) Zero)
 whole : ℕ → ℕ → ℕ → Bool
 whole w n q = eqb (byte_with n q w) (front (byte_with n q w) (q + 1))
 
-with_made : (n q : ℕ) (b : Bit) → n < 256 → q < 8 → byte_with n q (weight b) ≡ pack (λ j. cond (ltb j (q + 1)) (bit_of (byte_with n q (weight b)) j) Zero)
+pub with_made : (n q : ℕ) (b : Bit) → n < 256 → q < 8 → byte_with n q (weight b) ≡ pack (λ j. cond (ltb j (q + 1)) (bit_of (byte_with n q (weight b)) j) Zero)
 unfolding whole front
 with_made n q b hn hq =
     eqb→eq (byte_with n q (weight b)) (front (byte_with n q (weight b)) (q + 1))

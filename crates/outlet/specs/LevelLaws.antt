@@ -76,6 +76,9 @@ levels_after_are old n bits =
     let only : 1 * k + 0 ≡ k = omega arith in
     ap₂ (λ i j. cond (nat_lt i n) (slice_index_or old k (pos 0)) (cond (nat_lt i (length bits)) (level (slice_index_or bits j Zero)) (slice_index_or old k (pos 0)))) at only)
 
+pub unleveled : (xs : List ℤ) (n : ℕ) → Leveled xs xs n n
+unleveled xs n = record { long = refl; more = omega arith; others = λ k e. refl; written = λ k a h. absurd (omega arith) }
+
 -- what a level outlet is made of
 abbrev pub level_cell : Ghosts ℤ
 level_cell = record { PLACES = 1; form = level_form }

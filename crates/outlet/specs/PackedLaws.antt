@@ -6,7 +6,7 @@ use Rattle.element.specs.Bits.{weight}
 use Rattle.outlet.specs.Bytes.{pack}
 use Rattle.outlet.specs.Meaning.{Lawful}
 use Rattle.outlet.specs.Storing.{FormLaws, stored_bit, stored_bits}
-use Rattle.outlet.specs.StoreLaws.{store_lawful}
+use Rattle.outlet.specs.StoreLaws.{unstored, store_lawful}
 use Rattle.outlet.specs.Packing.{place_bit, packed_bits, packed_room, byte_form, Packs}
 use Rattle.outlet.specs.declared.cell.Cell.{Ghosts}
 use Rattle.outlet.specs.declared.store.Stored.{Stored}
@@ -29,6 +29,9 @@ byte_laws = record { some = omega arith; few = omega arith; same = pack_same }
 pub packed_is : (xs : List ℕ) (n : ℕ) → stored_bits 8 byte_form xs n ≡ packed_bits xs n
 unfolding stored_bit place_bit
 packed_is xs n = refl
+
+pub unpacked : (xs : List ℕ) (n : ℕ) → Packs xs xs n n
+unpacked xs n = unstored 8 byte_form xs n
 
 -- what a packed outlet is made of
 abbrev pub byte_cell : Ghosts ℕ

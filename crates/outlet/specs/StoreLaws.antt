@@ -6,7 +6,7 @@ use Rattle.outlet.specs.Meaning.{Lawful}
 use Rattle.outlet.specs.Storing.{Form, stored_bit, stored_bits, store_room, Stores}
 
 module _ {C : Type 0} (per : ℕ) (form : Form C) where
-  unstored : (xs : List C) (n : ℕ) → Stores per form xs xs n n
+  pub unstored : (xs : List C) (n : ℕ) → Stores per form xs xs n n
   unstored xs n = record { long = refl; more = omega arith; others = λ k e. refl; opened = λ k made h. made h }
 
   onward : (xs ys zs : List C) (l m n : ℕ) → Stores per form xs ys l m → Stores per form ys zs m n → Stores per form xs zs l n

@@ -60,7 +60,7 @@ pub record Own (c : Shape) (q : Equation) (to : ℕ) : Type 0 where
   pub there : to < c.K + 3
 
 -- terms apart, by what a loop is given
-apart_given : (c : Shape) (q : Equation) (from' : ℕ) → AllApart c.m from' (terms q) → (m from : ℕ) (table : List Permutation) (ts : List Term)
+pub apart_given : (c : Shape) (q : Equation) (from' : ℕ) → AllApart c.m from' (terms q) → (m from : ℕ) (table : List Permutation) (ts : List Term)
     → m ≡ c.m → table ≡ permutations c → ts ≡ terms q → from ≡ from' → AllApart m from ts
 apart_given c q from' away m from table ts em et es ef =
     subst (λ k. AllApart m k ts) (sym ef) (subst (λ (v : View ℕ). AllApart v.m from' v.ts) (sym (view_is c q m table ts [] em et es)) away)
@@ -73,19 +73,19 @@ module _ (c : Shape) (ok : Sound c) where
   groups_at : (k : ℕ) → 4 * k * c.m ≡ k * M c
   groups_at k = ap (λ n. n * c.m) (mul_comm 4 k) ∙ mul_assoc k 4 c.m
 
-  asked_sound : list_all (term_sound (c.K + 3) (length (permutations c))) (terms (asked c)) ≡ true
+  pub asked_sound : list_all (term_sound (c.K + 3) (length (permutations c))) (terms (asked c)) ≡ true
   asked_sound =
       let test = term_sound (c.K + 3) (length (permutations c)) in
       let parts = all_append test (terms c.u2) (operator_terms Identity (c.K + 1) ++ operator_terms c.P (z c)) ok.second_sound in
       list_all-append test (terms c.u2) (operator_terms c.P (z c)) ∙ and_from _ _ parts.0 (and_parts _ _ parts.1).1
 
-  closing_sound : list_all (term_sound (c.K + 3) (length (permutations c))) (terms (closing c)) ≡ true
+  pub closing_sound : list_all (term_sound (c.K + 3) (length (permutations c))) (terms (closing c)) ≡ true
   closing_sound = (and_parts _ _ ok.first_sound).1
 
-  known_apart : AllApart c.m ((c.K + 2) * M c) (terms (known c))
+  pub known_apart : AllApart c.m ((c.K + 2) * M c) (terms (known c))
   known_apart = below_apart c (c.K + 2) _ _ (omega arith) (terms (known c)) ok.known_sound
 
-  message_apart : AllApart c.m ((c.K + 2) * M c) (terms c.u3)
+  pub message_apart : AllApart c.m ((c.K + 2) * M c) (terms c.u3)
   message_apart = below_apart c c.K _ _ (omega (arith, mul-le-mul_right (M c) more)) (terms c.u3) ok.u3_sound
     where
       more : c.K ≤ c.K + 2
@@ -97,12 +97,12 @@ module _ (c : Shape) (ok : Sound c) where
       add_two : (c.K + 2) * M c ≡ c.K * M c + 2 * M c
       add_two = omega (arith, add-mul c.K 2 (4 * c.m))
 
-  asked_apart : AllApart c.m (c.K * M c) (terms (asked c))
+  pub asked_apart : AllApart c.m (c.K * M c) (terms (asked c))
   asked_apart =
       apart_append c.m (c.K * M c) (terms c.u2) (operator_terms c.P (z c))
       (below_apart c c.K _ _ (omega arith) (terms c.u2) ok.u2_sound) (punctured_apart c.P)
 
-  closing_apart : AllApart c.m (c.K * M c) (terms (closing c))
+  pub closing_apart : AllApart c.m (c.K * M c) (terms (closing c))
   closing_apart = punctured_apart (Identity ⊞ c.Π1)
 
   -- what the check and the coders write, and to which group

@@ -19,7 +19,7 @@ abbrev pub given_as : ℕ → List ℕ → ℕ → Given
 given_as m ws n = record { m = m; words = ws; segments_of = n }
 
 -- place s of segment q of the product with all message segments
-abbrev by_generator : {E : Type 0} → E → (E → E → E) → Given → (ℕ → ℕ → E) → ℕ → ℕ → E
+abbrev pub by_generator : {E : Type 0} → E → (E → E → E) → Given → (ℕ → ℕ → E) → ℕ → ℕ → E
 by_generator none plus g x q s = sum none plus g.segments_of (λ r. act none plus g.m (first_row g.m g.words (8 * r + q)) (x (0 + r)) s)
 
 -- what the loop wrote

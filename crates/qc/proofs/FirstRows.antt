@@ -26,7 +26,7 @@ bit_left_high q n k d h =
     ∙ ap (λ y. y % 2) (shr-shr (q % 2 ^ (k + n)) n d) ∙ bit_mod q (k + n) (n + d) (omega arith)
 
 -- the bits of a first row that is turned left by k
-bit_left : (m k q e : ℕ) → k ≤ m → e < m → bit (left m k q) ((e + k) % m) ≡ bit q e
+pub bit_left : (m k q e : ℕ) → k ≤ m → e < m → bit (left m k q) ((e + k) % m) ≡ bit q e
 bit_left m k q e hk he = go (dec_le (m - k) e)
   where
     whole : m ≡ k + (m - k)
@@ -110,7 +110,7 @@ module _ {E : Type 0} {none : E} {plus : E → E → E} {same : E → E → Bool
   times_none zero = refl
   times_none (suc n) = refl
 
-  act_of_none : (m q s : ℕ) → act none plus m q (λ i. none) s ≡ none
+  pub act_of_none : (m q s : ℕ) → act none plus m q (λ i. none) s ≡ none
   act_of_none m q s = sum_ext laws m _ (λ e. none) (λ e h. times_none (bit q e)) ∙ sum_none laws m
 
   pub act_of_sum : (m q n : ℕ) (x : ℕ → ℕ → E) (s : ℕ) → act none plus m q (λ i. sum none plus n (λ l. x l i)) s ≡ sum none plus n (λ l. act none plus m q (x l) s)
@@ -130,7 +130,7 @@ module _ {E : Type 0} {none : E} {plus : E → E → E} {same : E → E → Bool
       act_xsum m m (λ e. times 0 (bit p e) (left m (1 + e) q)) x s
       ∙ sum_ext laws m _ _ (λ e h. act_times m (bit p e) (left m (1 + e) q) x s ∙ ap (times none (bit p e)) (act_left m (1 + e) q x s (omega arith)))
 
-  act_unit : (m : ℕ) (x : ℕ → E) (s : ℕ) → s < m → act none plus m (2 ^ (m - 1)) x s ≡ x s
+  pub act_unit : (m : ℕ) (x : ℕ → E) (s : ℕ) → s < m → act none plus m (2 ^ (m - 1)) x s ≡ x s
   act_unit m x s h =
       sum_one laws m (λ e. times none (bit (2 ^ (m - 1)) e) (x ((s + (1 + e)) % m))) (m - 1) (omega arith)
       (λ e l d. ap (λ b. times none b (x ((s + (1 + e)) % m))) (bit_pow_other (m - 1) e (omega arith)))

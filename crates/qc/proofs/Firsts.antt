@@ -17,7 +17,7 @@ use Rattle.qc.proofs.FirstRows.{act_xor, act_left, act_none, shift_comm}
 use Rattle.qc.proofs.Soundness.{Sound, shift_most}
 
 module _ {E : Type 0} {none : E} {plus : E → E → E} {same : E → E → Bool} (laws : Laws none plus same) (c : Shape) where
-  terms_none : (ts : List Term) (j s : ℕ) → segment_sum none plus c.m (permutations c) ts (λ n i. none) j s ≡ none
+  pub terms_none : (ts : List Term) (j s : ℕ) → segment_sum none plus c.m (permutations c) ts (λ n i. none) j s ≡ none
   terms_none [] j s = refl
   terms_none (t ∷ ts) j s = laws.neutral _ ∙ terms_none ts j s
 

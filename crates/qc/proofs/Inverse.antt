@@ -14,7 +14,7 @@ use Rattle.qc.proofs.Firsts.{terms_sum, terms_act, operator_alike}
 use Rattle.qc.proofs.Soundness.{Sound}
 
 -- four segments under a table of first rows: segment l of x adds v l n to segment n
-abbrev spread : {E : Type 0} → E → (E → E → E) → ℕ → (ℕ → ℕ → ℕ) → (ℕ → ℕ → E) → ℕ → ℕ → E
+abbrev pub spread : {E : Type 0} → E → (E → E → E) → ℕ → (ℕ → ℕ → ℕ) → (ℕ → ℕ → E) → ℕ → ℕ → E
 spread none plus m v x n s = sum none plus 4 (λ l. act none plus m (v l n) (x l) s)
 
 abbrev pub under : {E : Type 0} → E → (E → E → E) → Shape → Operator → (ℕ → ℕ → E) → ℕ → ℕ → E

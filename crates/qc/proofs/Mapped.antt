@@ -1,6 +1,6 @@
 -- A map between element kinds that keeps zero and sums takes rows to rows, punctured groups to punctured
 -- groups, and codeblocks to codeblocks.
-use Rattle.std.proofs.Common.{◌≡◌, ℕ, zero, suc, ◌+◌, ◌-◌, ◌*◌, ◌/◌, ◌%◌, ◌<◌, ◌≤◌, Bool, cond, ltb, List, [], ◌∷◌, ◌++◌, map, length, get_or, take, drop, sym, refl, ap, ◌∙◌, ap₂, arith}
+use Rattle.std.proofs.Common.{◌≡◌, ℕ, zero, suc, ◌+◌, ◌-◌, ◌*◌, ◌/◌, ◌%◌, ◌<◌, ◌≤◌, Bool, true, false, cond, ltb, List, [], ◌∷◌, ◌++◌, map, length, get_or, take, drop, sym, refl, ap, ◌∙◌, ap₂, arith}
 use mathlib.Core.List.{map-map}
 use native.Mathlib.Decide.{dec_lt}
 use lib.ListN.{get_or-map}
@@ -10,7 +10,7 @@ use Rattle.std.proofs.lemmas.Bool.{le-ltb}
 use Rattle.element.specs.Laws.{Laws}
 use Rattle.qc.specs.Equation.{Operator, Equation, Operator.Identity, Operator.Π, Operator.◌⊞◌, Equation.◌of◌, Equation.◌⊕◌}
 use Rattle.qc.specs.Shape.{Shape, M, z, sent, whole, known, apply, value}
-use Rattle.qc.specs.Codeblock.{block_row, row, groups, completed_by, Codeblock, punctured, completed}
+use Rattle.qc.specs.Codeblock.{block_row, row, groups, AllZero, completed_by, Codeblock, punctured, completed}
 use Rattle.qc.specs.Keeps.{Keeps}
 use Rattle.qc.proofs.Soundness.{Sound}
 use Rattle.qc.proofs.Codeblocks.{row_same, zero_codeblock, codeblock_zero, third_zero}
@@ -35,17 +35,28 @@ module _ {E F : Type 0} {none : E} {plus : E → E → E} {none' : F} {plus' : F
   operator_map (Π t) x i = refl
   operator_map (A ⊞ B) x i = keeps.keeps_sum _ _ ∙ ap₂ plus' (operator_map A x i) (operator_map B x i)
 
-  value_map : (q : Equation) (x : ℕ → ℕ → E) (i : ℕ) → h (value plus c q x i) ≡ value plus' c q (λ g k. h (x g k)) i
+  pub value_map : (q : Equation) (x : ℕ → ℕ → E) (i : ℕ) → h (value plus c q x i) ≡ value plus' c q (λ g k. h (x g k)) i
   value_map (A of g) x i = operator_map A (x g) i
   value_map (p ⊕ q) x i = keeps.keeps_sum _ _ ∙ ap₂ plus' (value_map p x i) (value_map q x i)
 
-  row_map : (x : ℕ → ℕ → E) (r : ℕ) → h (row none plus c x r) ≡ row none' plus' c (λ g i. h (x g i)) r
+  pub row_map : (x : ℕ → ℕ → E) (r : ℕ) → h (row none plus c x r) ≡ row none' plus' c (λ g i. h (x g i)) r
   row_map x r = value_map (block_row c (r / M c)) x (r % M c)
 
-  groups_map : (xs : List E) (w : ℕ) → groups none' w (map h xs) ≡ (λ g i. h (groups none w xs g i))
+  pub all_zero_map : (x : ℕ → ℕ → E) → AllZero none plus c x → AllZero none' plus' c (λ g i. h (x g i))
+  all_zero_map x zeros r l = sym (row_map x r) ∙ ap h (zeros r l) ∙ keeps.keeps_zero
+
+  pub codeblock_map : (x : ℕ → ℕ → E) → Codeblock none plus c x → Codeblock none' plus' c (λ g i. h (x g i))
+  codeblock_map x (w, zeros) =
+      ((λ i. h (w i)), (λ r l. ap (λ (y : ℕ → ℕ → F). row none' plus' c y r) (λ t g i. taken (ltb g (z c)) (x g i) (w i) t) ∙ all_zero_map (completed_by none plus c x w) zeros r l))
+    where
+      taken : (b : Bool) (u v : E) → cond b (h u) (h v) ≡ h (cond b u v)
+      taken true u v = refl
+      taken false u v = refl
+
+  pub groups_map : (xs : List E) (w : ℕ) → groups none' w (map h xs) ≡ (λ g i. h (groups none w xs g i))
   groups_map xs w = λ t g i. (ap (get_or (map h xs) (g * w + i)) (sym keeps.keeps_zero) ∙ get_or-map h xs (g * w + i) none) t
 
-  completed_map : (xs : List E) → map h (completed none plus c xs) ≡ completed none' plus' c (map h xs)
+  pub completed_map : (xs : List E) → map h (completed none plus c xs) ≡ completed none' plus' c (map h xs)
   unfolding completed
   completed_map xs =
       map-append h (take (sent c) xs) _
@@ -57,7 +68,7 @@ module _ {E F : Type 0} {none : E} {plus : E → E → E} {none' : F} {plus' : F
       one i = value_map (known c) (groups none (M c) xs) i ∙ ap (λ (y : ℕ → ℕ → F). punctured none' plus' c y i) (sym (groups_map xs (M c)))
 
   -- the rows of a completed list, mapped
-  completed_row_map : (xs : List E) (r : ℕ) → h (row none plus c (groups none (M c) (completed none plus c xs)) r) ≡ row none' plus' c (groups none' (M c) (completed none' plus' c (map h xs))) r
+  pub completed_row_map : (xs : List E) (r : ℕ) → h (row none plus c (groups none (M c) (completed none plus c xs)) r) ≡ row none' plus' c (groups none' (M c) (completed none' plus' c (map h xs))) r
   completed_row_map xs r =
       row_map (groups none (M c) (completed none plus c xs)) r
       ∙ ap (λ (y : ℕ → ℕ → F). row none' plus' c y r) (sym (groups_map (completed none plus c xs) (M c)))

@@ -5,11 +5,11 @@ use Rattle.std.proofs.lemmas.Nat.{mul-add-lt, div-mul-add}
 use Rattle.qc.specs.declared.terms.Permutation.{Permutation}
 use Rattle.qc.specs.Permutation.{π, identity}
 
-quarter : (m : ℕ) → 4 * m / 4 ≡ m
+pub quarter : (m : ℕ) → 4 * m / 4 ≡ m
 quarter m = mul-div_cancel_left m (lit< tt)
 
 -- ⌊4i/M⌋ is the number of the segment
-segment_of : (m j s : ℕ) → s < m → 4 * (j * m + s) / (4 * m) ≡ j
+pub segment_of : (m j s : ℕ) → s < m → 4 * (j * m + s) / (4 * m) ≡ j
 segment_of m j s h = mul-div-mul_left (j * m + s) m (lit< tt) ∙ div-mul-add j m s h
 
 pub π_place : (m : ℕ) (p : Permutation) (j s : ℕ) → s < m → π (4 * m) p (j * m + s) ≡ (p.theta + j) % 4 * m + (s + get_or p.phi j 0) % m

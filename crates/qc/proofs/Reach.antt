@@ -41,6 +41,15 @@ module _ {X : Type 0} (from k : ℕ) (xs ys : List X) (fits : from + k ≤ lengt
       let at : from + i ≡ length (take from xs) + i = omega (arith, e) in
       ap (λ p. get_or (put_mid from k xs ys) p d) at ∙ get_or-append-add (take from xs) _ i d ∙ get_or_append_left ys _ d i (omega arith)
 
+  pub mid_after : (p : ℕ) (d : X) → from + k ≤ p → get_or (put_mid from k xs ys) p d ≡ get_or xs p d
+  mid_after p d h =
+      let e = length-take-le from xs (omega arith) in
+      let n = p - (from + k) in
+      let at : p ≡ length (take from xs) + (length ys + n) = omega (arith, e) in
+      let on : from + (k + n) ≡ p = omega arith in
+      ap (λ q. get_or (put_mid from k xs ys) q d) at ∙ get_or-append-add (take from xs) _ _ d ∙ get_or-append-add ys _ n d
+      ∙ get_or-drop k (drop from xs) n d ∙ get_or-drop from xs (k + n) d ∙ ap (λ q. get_or xs q d) on
+
 -- segment n of a list that holds `count` segments of m elements
 pub record Held (n m len : ℕ) : Type 0 where
   pub part : n * m + m ≤ len

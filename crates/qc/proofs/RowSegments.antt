@@ -44,7 +44,7 @@ abbrev pub viewed_segment : {E : Type 0} → E → (E → E → E) → View E �
 viewed_segment none plus v j s = segment_sum none plus v.m v.table v.ts (segments none v.m v.xs) j s
 
 module _ {E : Type 0} {none : E} {plus : E → E → E} {same : E → E → Bool} (laws : Laws none plus same) (c : Shape) (xs : List E) (n : ℕ) where
-  row_of_segment : (s : ℕ) → s < c.m → row none plus c (groups none (M c) xs) (n * c.m + s) ≡ viewed_segment none plus (view c (block_row c (n / 4)) xs) (n % 4) s
+  pub row_of_segment : (s : ℕ) → s < c.m → row none plus c (groups none (M c) xs) (n * c.m + s) ≡ viewed_segment none plus (view c (block_row c (n / 4)) xs) (n % 4) s
   row_of_segment s h =
       let quarter : n % 4 < 4 = mod-lt n (lit< tt) in
       ap (row none plus c (groups none (M c) xs)) place

@@ -18,7 +18,7 @@ pub record SegmentsWritten {E : Type 0} (none : E) (m : ℕ) (f : ℕ → ℕ �
   pub after : (n s : ℕ) → t + k ≤ n → s < m → segments none m ys n s ≡ segments none m xs n s
   pub rest : (p : ℕ) → (t + k) * m ≤ p → get_or ys p none ≡ get_or xs p none
 
-by_segments : {E : Type 0} (none : E) (m : ℕ) (f : ℕ → ℕ → E) (t k : ℕ) (xs ys : List E) (from upto : ℕ) → from ≡ t * m → upto ≡ (t + k) * m
+pub by_segments : {E : Type 0} (none : E) (m : ℕ) (f : ℕ → ℕ → E) (t k : ℕ) (xs ys : List E) (from upto : ℕ) → from ≡ t * m → upto ≡ (t + k) * m
     → Written none (λ p. f ((p - from) / m) ((p - from) % m)) from xs ys upto → SegmentsWritten none m f t xs ys k
 by_segments none m f t k xs ys from upto is to w = record {
   before = λ n s hn hs. w.before (n * m + s) (omega (arith, mul-add-lt n m s t hn hs, mul_comm m t));

@@ -29,7 +29,7 @@ module _ {E : Type 0} {none : E} {plus : E → E → E} {same : E → E → Bool
       ∙ ap (plus a) (sym (laws.assoc b c d) ∙ ap (λ y. plus y d) (laws.comm b c) ∙ laws.assoc c b d)
       ∙ sym (laws.assoc a c (plus b d))
 
-  cancel : (a b c : E) → plus a c ≡ plus b c → a ≡ b
+  pub cancel : (a b c : E) → plus a c ≡ plus b c → a ≡ b
   cancel a b c h =
       sym (right a) ∙ ap (plus a) (sym (laws.cancels c)) ∙ sym (laws.assoc a c c)
       ∙ ap (λ y. plus y c) h ∙ laws.assoc b c c ∙ ap (plus b) (laws.cancels c) ∙ right b
@@ -87,3 +87,8 @@ module _ {E : Type 0} {none : E} {plus : E → E → E} {same : E → E → Bool
           ∙ laws.neutral (f n) ∙ ap f (sym e)
       go (no ne) less =
           ap₂ plus (less (omega arith)) (others n (omega arith) (omega arith)) ∙ right (f k)
+
+-- the same sum where each value is the same
+pub total_same : {E X : Type 0} (none : E) (plus : E → E → E) (f g : X → E) → ((x : X) → f x ≡ g x) → (xs : List X) → total none plus f xs ≡ total none plus g xs
+total_same none plus f g alike [] = refl
+total_same none plus f g alike (x ∷ xs) = ap₂ plus (alike x) (total_same none plus f g alike xs)

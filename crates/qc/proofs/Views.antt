@@ -43,7 +43,7 @@ lowest_viewed none plus same v = lowest (λ i. same (viewed none plus v i) none)
 
 module _ {E : Type 0} {none : E} {plus : E → E → E} {same : E → E → Bool} (laws : Laws none plus same) (c : Shape) (ok : Sound c) where
   -- place i of an equation's group, as the loops see it
-  viewed_value : (q : Equation) (xs : List E) (i : ℕ) → i < M c → viewed none plus (view c q xs) i ≡ value plus c q (groups none (M c) xs) i
+  pub viewed_value : (q : Equation) (xs : List E) (i : ℕ) → i < M c → viewed none plus (view c q xs) i ≡ value plus c q (groups none (M c) xs) i
   viewed_value q xs i h =
       sym (by_terms laws c xs (i / c.m) (i % c.m) (div_below i c.m 4 ok.some_long h) (mod-lt i ok.some_long) q)
       ∙ ap (value plus c q (groups none (M c) xs)) (div-add-mod' i c.m)

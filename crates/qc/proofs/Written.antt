@@ -1,5 +1,5 @@
 -- Loops that write place after place.
-use Rattle.std.proofs.Common.{◌≡◌, ℕ, ◌+◌, ◌-◌, ◌%◌, ◌<◌, ◌≤◌, ◌≢◌, List, ◌++◌, length, get_or, set, take, drop, sym, ap, ◌∙◌, ap₂, mod-eq_of_lt, arith, get_or-set_other, get_or-set_same, below_more}
+use Rattle.std.proofs.Common.{◌≡◌, ℕ, ◌+◌, ◌-◌, ◌%◌, ◌<◌, ◌≤◌, ◌≢◌, List, ◌++◌, length, get_or, set, take, drop, sym, refl, ap, ◌∙◌, ap₂, mod-eq_of_lt, arith, get_or-set_other, get_or-set_same, below_more}
 use native.Mathlib.Nat.{mod-eq-sub-mod}
 use native.Mathlib.Decide.{dec_lt}
 use borrow.Rule.Slice.PartMut.{put_mid}
@@ -8,6 +8,12 @@ use Rattle.qc.specs.Segments.{Written}
 use Rattle.qc.proofs.Reach.{mid_before, mid_made}
 
 module _ {E : Type 0} {none : E} {f : ℕ → E} {lo : ℕ} {ys : List E} where
+  pub written_none : Written none f lo ys ys lo
+  written_none = record { before = λ p h. refl; made = λ p h g. absurd (apart p h g); after = λ p h. refl }
+    where
+      apart : (p : ℕ) → p < lo → lo ≤ p → ⊥
+      apart p h g = omega arith
+
   pub written_more : (xs : List E) (n : ℕ) (v : E) → Written none f lo ys xs n → lo ≤ n → n < length xs → v ≡ f n → Written none f lo ys (set xs n v) (n + 1)
   written_more xs n v w le lt e =
       record {
@@ -38,10 +44,10 @@ module _ {E : Type 0} {none : E} {f : ℕ → E} {lo : ℕ} {ys : List E} where
           ap (λ q. get_or xs' q none) (sym at) ∙ here (p - n) (omega arith) ∙ ap f at
 
 -- place i + k of a segment of m, round to its front
-in_front : (m k i : ℕ) → k + i < m → k + i ≡ (i + k) % m
+pub in_front : (m k i : ℕ) → k + i < m → k + i ≡ (i + k) % m
 in_front m k i h = let e : k + i ≡ i + k = omega arith in e ∙ sym (mod-eq_of_lt (omega arith))
 
-in_back : (m k i : ℕ) → k ≤ m → m - k ≤ i → i < m → i - (m - k) ≡ (i + k) % m
+pub in_back : (m k i : ℕ) → k ≤ m → m - k ≤ i → i < m → i - (m - k) ≡ (i + k) % m
 in_back m k i h a b =
     let e : i - (m - k) ≡ i + k - m = omega arith in
     let big : m ≤ i + k = omega arith in
