@@ -14,7 +14,12 @@ use element::{Bit, Form};
 pub(crate) fn count_erased(marks: &[Option<Bit>]) -> usize
     ensures { result ≡ erasures marks.now }
 {
-    marks.iter().filter(|mark| mark.is_none()).count()
+    // Added up without a branch: behind `filter` each mark is one to guess.
+    let mut n = 0;
+    for mark in marks {
+        n += usize::from(mark.is_none());
+    }
+    n
 }
 
 // The form of a mark that has k erased before it.
