@@ -16,6 +16,7 @@ pub fn message_len(code: Code) -> usize
 }
 
 // The byte of the eight bits from a place on.
+#[tactic(auto, using(crate::proofs::Filling::byte_of))]
 fn byte_from(run: &[Bit], from: usize) -> u8
     requires { from + 8 ≤ length run.now }
     ensures { result ≡ pack (λ j. slice_index_or run.now (from + j) Zero) }

@@ -1,14 +1,18 @@
 -- A bit written among cells, and what the cells are after any number of takes.
-use Rattle.std.proofs.Common.{◌≡◌, ℕ, ◌+◌, ◌*◌, ◌/◌, ◌%◌, ◌<◌, ◌≤◌, ◌⊎◌, min, Bool, cond, ltb, List, [], ◌∷◌, ◌++◌, map, length, get_or, set, sym, ap, ◌∙◌, subst, ap₂, inl, inr, mul_comm, arith}
+use Rattle.std.proofs.Common.{◌≡◌, ℕ, ◌+◌, ◌*◌, ◌/◌, ◌%◌, ◌<◌, ◌≤◌, ◌⊎◌, min, Bool, cond, leb, ltb, List, [], ◌∷◌, ◌++◌, map, length, get_or, set, sym, ap, ◌∙◌, subst, ap₂, inl, inr, mul_comm, arith}
 use Rattle.std.specs.List.{range_with_len}
-use Rattle.std.proofs.lemmas.Bool.{cases_eq, cases_lt, lt-ltb, le-ltb, cond-true, cond-false}
+use Rattle.std.proofs.lemmas.Bool.{cases_eq, cases_lt, lt-ltb, le-ltb, le-leb, cond-true, cond-false}
 use Rattle.std.proofs.lemmas.Bool.Decides.{nat_tests}
 use Rattle.std.proofs.Math.Nat.{div-add-mod}
 use Rattle.std.proofs.lemmas.Nat.{div-mul-add, mod-mul-add, mod_below, row_fits, div_below}
-use Rattle.std.proofs.lemmas.List.{get_or-set_same, get_or-set_other, get_or_past, length-set}
+use Rattle.std.proofs.lemmas.List.{get_or-set_same, get_or-set_other, get_or_past, get_or_read_under, length-set}
 use Rattle.std.proofs.lemmas.List.FromFn.{length-map-range_with_len, get_or-map-range_with_len, map-range_with_len_more, fill_by_all}
 use Rattle.element.specs.declared.bits.Bit.{Bit}
 use Rattle.element.specs.declared.bits.Bit.TheVariants.{Zero}
+use Rattle.refusal.specs.Outcome.{Outcome.done, Outcome.refused}
+use Rattle.outlet.specs.declared.faults.PlaceFault.TheVariants.{NotHeld}
+use Rattle.outlet.specs.Refusals.{place_fault}
+use Rattle.outlet.specs.Meaning.{taken, bit_answer}
 use Rattle.outlet.specs.Storing.{Form, FormLaws, Written, store_room, stored_bit, stored_bits, MadeOf, Stores, cell_after, cells_after}
 
 same_counting : (f g : ℕ → Bit) (n : ℕ) → ((k : ℕ) → k < n → f k ≡ g k) → map f (range_with_len 0 n) ≡ map g (range_with_len 0 n)
@@ -57,7 +61,7 @@ module _ {C : Type 0} (per : ℕ) (form : Form C) (laws : FormLaws per form) (xs
     | inr ne ↦ ap (λ (z : C). form.bit z (p % per)) (other (p / per) ne)
   ]
 
-  put_bits : stored_bits per form (set xs (held / per) y) (held + 1) ≡ stored_bits per form xs held ++ (b ∷ [])
+  pub put_bits : stored_bits per form (set xs (held / per) y) (held + 1) ≡ stored_bits per form xs held ++ (b ∷ [])
   unfolding put
   put_bits =
       map-range_with_len_more (stored_bit per form put) 0 held held (omega arith)
@@ -151,3 +155,37 @@ module _ {C : Type 0} (per : ℕ) (form : Form C) (laws : FormLaws per form) whe
 
 -- how many bits a store holds, and what its calls answer by that
 pub ruleset counted = (length-map-range_with_len, nat_tests)
+
+-- what a take and a question need, of the cell that they read at a place that there is room for: `places` is the count of
+-- places of a cell, as it was asked
+module _ {C : Type 0} (per : ℕ) (form : Form C) (laws : FormLaws per form) (xs : List C) (count : ℕ) (long : count ≡ length xs) (places : ℕ) (is : places ≡ per) where
+  cell_at : (p : ℕ) → p < store_room per count → (x : C) → x ≡ get_or xs (p / places) x → get_or xs (p / per) form.blank ≡ x
+  cell_at p h x e =
+      let within = within_cells per p count laws.some h in
+      sym (get_or_read_under xs (p / per) count x form.blank (e ∙ ap (λ n. get_or xs (p / n) x) is) within long)
+
+  module _ (held : ℕ) (room : held < store_room per count) (x y : C) (read : x ≡ get_or xs (held / places) x) (b : Bit) (wrote : Written form x (held % places) b y) where
+    stored : (stored_bits per form (set xs (held / per) y) (held + 1) ≡ stored_bits per form xs held ++ (b ∷ [])) × Stores per form xs (set xs (held / per) y) held (held + 1)
+    stored =
+        let w : Written form (get_or xs (held / per) form.blank) (held % per) b y = subst (λ z. Written form z (held % per) b y) (sym (cell_at held room x read)) (subst (λ n. Written form x (held % n) b y) is wrote) in
+        put_cell per form laws xs held b y (omega (arith, within_cells per held count laws.some room, long)) w
+
+    pub take_bits : stored_bits per form (set xs (held / places) y) (held + 1) ≡ taken (b ∷ []) (stored_bits per form xs held) (store_room per count)
+    take_bits =
+        let many = length-map-range_with_len (stored_bit per form xs) 0 held in
+        ap (λ n. stored_bits per form (set xs (held / n) y) (held + 1)) is
+        ∙ stored.0
+        ∙ sym (cond-true (leb (length (stored_bits per form xs held) + 1) (store_room per count)) (stored_bits per form xs held ++ (b ∷ [])) (stored_bits per form xs held) (le-leb (length (stored_bits per form xs held) + 1) (store_room per count) (omega (arith, many, room))))
+
+    pub take_stores : Stores per form xs (set xs (held / places) y) held (held + 1)
+    take_stores = subst (λ n. Stores per form xs (set xs (held / n) y) held (held + 1)) (sym is) stored.1
+
+  -- the bit at a place that holds one
+  pub bit_held : (held p : ℕ) → held ≤ store_room per count → p < held → (x : C) → x ≡ get_or xs (p / places) x → (b : Bit) → b ≡ form.bit x (p % places) → done b ≡ bit_answer (stored_bits per form xs held) p
+  unfolding stored_bit
+  bit_held held p fits h x read b e =
+      let many = length-map-range_with_len (stored_bit per form xs) 0 held in
+      let is_bit : b ≡ stored_bit per form xs p = e ∙ ap₂ (λ (z : C) n. form.bit z (p % n)) (sym (cell_at p (omega arith) x read)) is in
+      let at = get_or-map-range_with_len (stored_bit per form xs) 0 held p p Zero h (omega arith) in
+      ap done (is_bit ∙ sym at)
+      ∙ sym (cond-true (ltb p (length (stored_bits per form xs held))) (done (get_or (stored_bits per form xs held) p Zero)) (refused (place_fault NotHeld)) (lt-ltb p (length (stored_bits per form xs held)) (omega (arith, many))))

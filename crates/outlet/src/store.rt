@@ -41,7 +41,7 @@ impl<C: Cell> Stored<C> {
     }
 }
 
-#[tactic(auto, using(crate::proofs::Storings::counted))]
+#[tactic(auto, using(crate::proofs::Storings::counted, crate::proofs::Storings::take_bits, crate::proofs::Storings::bit_held))]
 impl<C: Cell> Outlet for Stored<C> {
     ghost bits = { λ o. stored_bits C.PLACES C.form o.bytes.items o.held };
 
@@ -77,6 +77,7 @@ impl<C: Cell> Outlet for Stored<C> {
         if place >= self.held {
             return Err(PlaceFault::NotHeld);
         }
-        Ok(self.bytes[place / C::PLACES].bit(place % C::PLACES))
+        let places = C::PLACES;
+        Ok(self.bytes[place / places].bit(place % places))
     }
 }
