@@ -46,6 +46,7 @@ fn lowest_failing<C: QuasiCyclic, E: Element>(code: C, run: &[E], sums: &mut [E]
 // that is not zero. There is none, and the block passes, exactly when some punctured group makes all rows
 // zero, which is then the one that was written, and exactly when both coders make its parity from its
 // message.
+#[tactic(auto, using(crate::proofs::Answered::answered_by))]
 pub fn check<C: QuasiCyclic, E: Element>(code: C, run: &mut [E]) -> Result<Option<usize>, RunFault>
     ensures answer { outcome run_fault result ≡ check_answer E.zero E.plus (C.shape code) E.same run.old }
     ensures after { run.new ≡ checked_run E.zero E.plus (C.shape code) run.old }
