@@ -27,6 +27,13 @@ with_fits w n q hw hn hq =
     (from_all (λ a. all_below (λ m. all_below (λ k. fitting a m k) 8) 256) 2 w tt hw) hn) hq in
     grind (arith, nat_tests, t)
 
+-- the same by what is kept of the byte: the bits before bit q, or none, where bit q opens the byte
+pub after_fits : (kept w n q : ℕ) → w < 2 → n < 256 → q < 8 → kept ≡ n / 2 ^ (8 - q) * 2 ^ (8 - q) % 256 → kept + w * 2 ^ (7 - q) % 256 < 256
+after_fits kept w n q hw hn hq e = omega (arith, e, with_fits w n q hw hn hq)
+
+pub opening_fits : (kept w q : ℕ) → w < 2 → q < 8 → kept ≡ 0 → kept + w * 2 ^ (7 - q) % 256 < 256
+opening_fits kept w q hw hq e = omega (arith, e, with_fits w 0 q hw (omega arith) hq)
+
 -- each bit of a byte with a bit written
 digit : ℕ → ℕ → ℕ
 digit n j = n / 2 ^ (7 - j) % 2

@@ -1,6 +1,7 @@
 // The packed outlet.
-ghost use Rattle.std.specs.Prelude.{◌≡◌, vec_len};
-ghost use Rattle.outlet.specs.Packing.{packed_room};
+ghost use Rattle.std.specs.Prelude.{◌≡◌, ◌<◌, vec_len};
+ghost use Rattle.element.specs.Bits.{weight};
+ghost use Rattle.outlet.specs.Packing.{byte_with, packed_room};
 ghost use Rattle.outlet.specs.PackedLaws.{byte_cell, byte_laws};
 
 use crate::bytes::byte_bit;
@@ -23,10 +24,19 @@ impl Cell for u8 {
     }
 
     fn with(self, q: usize, b: Bit) -> u8 {
-        // The bit that opens a byte clears it.
-        let front = if q > 0 { self >> (8 - q) << (8 - q) } else { 0 };
-        front + (u8::from(b) << (7 - q))
+        with_bit(self, q, b)
     }
+}
+
+// The byte with bit `q` written and zeros after it.
+#[tactic(auto, using(crate::proofs::Digits::after_fits, crate::proofs::Digits::opening_fits))]
+fn with_bit(byte: u8, q: usize, b: Bit) -> u8
+    requires { q < 8 }
+    ensures { result ≡ byte_with byte q (weight b) }
+{
+    // The bit that opens a byte clears it.
+    let front = if q > 0 { byte >> (8 - q) << (8 - q) } else { 0 };
+    front + (u8::from(b) << (7 - q))
 }
 
 // Bits packed into bytes, eight to a byte, the first bit the most significant.
