@@ -138,3 +138,8 @@ module _ (code : Code) (opening : List Bit) (capacity : ℕ) (es : List Entry) w
                   ∙ ap₂ (λ (x : Code) (z : List (List ℕ)). block_in x (get_or z k []) q.run) (here i).same_code (here i).messages_are,
             );
       }
+
+-- the law, of calls that are answered as the book gives
+pub law_of : (code : Code) (opening : List Bit) (capacity : ℕ) (asked after : List Entry) (bits : List Bit)
+    → after ≡ served_calls (opened code opening capacity) asked → bits ≡ written (book_after (opened code opening capacity) asked) → LineLaw code opening capacity asked after bits
+law_of code opening capacity asked after bits answers held = subst (λ (z : List Entry). LineLaw code opening capacity asked z bits) (sym answers) (line_law code opening capacity asked bits held)

@@ -7,3 +7,4 @@ pub mod Messages
 pub mod ReadingBack
 pub mod CallLists
 pub mod Laws
+pub mod Serving

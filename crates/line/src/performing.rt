@@ -31,6 +31,7 @@ fn serve<C: Coder, O: Outlet>(line: &mut Line<C, O>, call: &mut Call)
 }
 
 // Opens a line over the outlet, puts the calls to it one after the other, and hands the outlet back.
+#[tactic(auto, using(crate::proofs::Serving::serving))]
 pub fn perform<C: Coder + Drop, O: Outlet>(code: Code, coder: C, outlet: O, calls: &mut [Call]) -> O
     ensures answers { map seen calls.new ≡ served_calls (opened code (O.bits outlet) (O.room outlet)) (map seen calls.old) }
     ensures outlet { O.bits result ≡ written (book_after (opened code (O.bits outlet) (O.room outlet)) (map seen calls.old)) }
