@@ -170,15 +170,16 @@ module _ {C : Type 0} (per : ℕ) (form : Form C) (laws : FormLaws per form) (xs
         let w : Written form (get_or xs (held / per) form.blank) (held % per) b y = subst (λ z. Written form z (held % per) b y) (sym (cell_at held room x read)) (subst (λ n. Written form x (held % n) b y) is wrote) in
         put_cell per form laws xs held b y (omega (arith, within_cells per held count laws.some room, long)) w
 
-    pub take_bits : stored_bits per form (set xs (held / places) y) (held + 1) ≡ taken (b ∷ []) (stored_bits per form xs held) (store_room per count)
-    take_bits =
+    -- `n` is how many bits are held after it, as they were counted
+    pub take_bits : (n : ℕ) → n ≡ held + 1 → stored_bits per form (set xs (held / places) y) n ≡ taken (b ∷ []) (stored_bits per form xs held) (store_room per count)
+    take_bits n one =
         let many = length-map-range_with_len (stored_bit per form xs) 0 held in
-        ap (λ n. stored_bits per form (set xs (held / n) y) (held + 1)) is
+        ap₂ (λ c k. stored_bits per form (set xs (held / c) y) k) is one
         ∙ stored.0
         ∙ sym (cond-true (leb (length (stored_bits per form xs held) + 1) (store_room per count)) (stored_bits per form xs held ++ (b ∷ [])) (stored_bits per form xs held) (le-leb (length (stored_bits per form xs held) + 1) (store_room per count) (omega (arith, many, room))))
 
-    pub take_stores : Stores per form xs (set xs (held / places) y) held (held + 1)
-    take_stores = subst (λ n. Stores per form xs (set xs (held / n) y) held (held + 1)) (sym is) stored.1
+    pub take_stores : (n : ℕ) → n ≡ held + 1 → Stores per form xs (set xs (held / places) y) held n
+    take_stores n one = subst (λ k. Stores per form xs (set xs (held / places) y) held k) (sym one) (subst (λ c. Stores per form xs (set xs (held / c) y) held (held + 1)) (sym is) stored.1)
 
   -- the bit at a place that holds one
   pub bit_held : (held p : ℕ) → held ≤ store_room per count → p < held → (x : C) → x ≡ get_or xs (p / places) x → (b : Bit) → b ≡ form.bit x (p % places) → done b ≡ bit_answer (stored_bits per form xs held) p

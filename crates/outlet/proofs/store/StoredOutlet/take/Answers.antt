@@ -6,4 +6,4 @@ pub returns-clause-rest : goal.returns-clause-rest
 returns-clause-rest g c =
     let o = c.args.self.now in
     let s = g.C.Cell in
-    take_stores s.PLACES s.form g.met.C.Cell.laws o.bytes.items (vec_len o.bytes) o.bytes.ok.0 _ c.PLACES-places.ensures o.held (omega (arith, c.capacity.ensures)) c.index.result.now _ c.index.ensures c.args.b c.with-cell.ensures
+    take_stores s.PLACES s.form g.met.C.Cell.laws o.bytes.items (vec_len o.bytes) o.bytes.ok.0 _ c.PLACES-places.ensures o.held (omega (arith, c.capacity.ensures)) c.index.result.now _ c.index.ensures c.args.b c.with-cell.ensures _ (grind arith)
